@@ -1,0 +1,2 @@
+pub mod CursorKey
+pub mod RangeBound

@@ -1,0 +1,5 @@
+pub mod Order
+pub mod Bytes
+pub mod Ikey
+pub mod Turns
+pub mod Part

@@ -1,0 +1,126 @@
+// Keys as byte strings: plain byte order, and the ikey, eight key bytes as one number (the Rust's key.rs).
+//
+// Interface: every public function here. `part_of`, `copy_in` and `padded` ask that what they read or fill is long
+// enough; each result is fixed by a definition of specs/ or of the library.
+ghost use mathlib.Core.Path.{_≡_};
+ghost use Prim.Native.Nat.{_+_, _≤_};
+ghost use lib.ListN.{getD, length};
+ghost use lib.Seq.{paste};
+ghost use Rattle.key.specs.Order.{byteOrder};
+ghost use Rattle.key.specs.Ikey.{ikeyOf, ikeyBytes};
+ghost use Rattle.key.specs.Part.{part, padded};
+
+// The key bytes in one layer.
+pub const IKEY_SIZE: usize = 8;
+
+// The bytes that a key may have.
+pub const MAX_KEY_LENGTH: usize = 256;
+
+// The answer of a comparison.
+pub enum Ordering {
+    Less,
+    Equal,
+    Greater,
+}
+
+// The n bytes of s from `at` on.
+pub fn part_of<'a>(s: &'a [u8], at: usize, n: usize) -> &'a [u8]
+    requires { ⌜ at + n ≤ length (now s) ⌝ }
+    ensures { λ r. ⌜ now r ≡ part (now (s .entry)) at n ⌝ }
+{
+    let end = at + n;
+    &s[at..end]
+}
+
+// Plain byte order of two keys.
+pub fn compare(a: &[u8], b: &[u8]) -> Ordering
+    ensures { λ r. ⌜ r ≡ byteOrder (now (a .entry)) (now (b .entry)) ⌝ }
+{
+    let mut i = 0;
+    while i < a.len() {
+        if b.len() <= i {
+            return Ordering::Greater;
+        }
+        let x = a[i];
+        let y = b[i];
+        if x < y {
+            return Ordering::Less;
+        }
+        if y < x {
+            return Ordering::Greater;
+        }
+        i += 1;
+    }
+    if i < b.len() {
+        return Ordering::Less;
+    }
+    Ordering::Equal
+}
+
+// The byte at i, or 0 past the key's end.
+fn byte_or_zero(key: &[u8], i: usize) -> u64
+    ensures { λ r. ⌜ r ≡ getD (now (key .entry)) i 0 ⌝ }
+{
+    if i < key.len() {
+        return wide(key[i]);
+    }
+    0
+}
+
+fn wide(x: u8) -> u64
+    ensures { λ r. ⌜ r ≡ x ⌝ }
+{
+    x as u64
+}
+
+// The ikey of a key: its first eight bytes, first byte highest, zero-filled.
+pub fn ikey_of(key: &[u8]) -> u64
+    ensures { λ r. ⌜ r ≡ ikeyOf (now (key .entry)) ⌝ }
+{
+    let mut ikey = 0;
+    let mut i = 0;
+    while i < 8 {
+        ikey = ikey * 256 + byte_or_zero(key, i);
+        i += 1;
+    }
+    ikey
+}
+
+// The eight bytes of an ikey, first byte highest.
+pub fn ikey_bytes(ikey: u64) -> [u8; 8]
+    ensures { λ r. ⌜ r ≡ ikeyBytes ikey ⌝ }
+{
+    [
+        (ikey / 72057594037927936 % 256) as u8,
+        (ikey / 281474976710656 % 256) as u8,
+        (ikey / 1099511627776 % 256) as u8,
+        (ikey / 4294967296 % 256) as u8,
+        (ikey / 16777216 % 256) as u8,
+        (ikey / 65536 % 256) as u8,
+        (ikey / 256 % 256) as u8,
+        (ikey % 256) as u8,
+    ]
+}
+
+// The bytes of s into buf, from `at` on; the rest of buf stays. `paste d at s n` of the library is d with the first n of s
+// in it from `at` on.
+pub fn copy_in(buf: &mut [u8], at: usize, s: &[u8])
+    requires { ⌜ at + length (now s) ≤ length (now buf) ⌝ }
+    ensures { λ _. ⌜ now (buf .exit) ≡ paste (now (buf .entry)) at (now (s .entry)) (length (now (s .entry))) ⌝ }
+{
+    let mut i = 0;
+    while i < s.len() {
+        buf[at + i] = s[i];
+        i += 1;
+    }
+}
+
+// A key in a buffer of 256 bytes, zero past its end.
+pub fn padded(key: &[u8]) -> [u8; 256]
+    requires { ⌜ length (now key) ≤ 256 ⌝ }
+    ensures { λ r. ⌜ r ≡ padded (now (key .entry)) ⌝ }
+{
+    let mut buf = [0u8; 256];
+    copy_in(&mut buf, 0, key);
+    buf
+}

@@ -1,0 +1,12 @@
+-- The permutation's fields have four bits each. Assumes nothing.
+use Prim.Native.Nat.{ℕ, _<_}
+use native.Mathlib.Omega.{arith}
+use Rattle.node.specs.Permuter.{sizeOf, slotAt}
+use Rattle.node.specs.declared.permuter.Position.{Position}
+
+pub size-fits : (permutation : ℕ) → sizeOf permutation < 16
+size-fits permutation = omega arith
+
+pub slot-fits : (permutation : ℕ) (p : Position) → slotAt permutation p .0 < 16
+unfolding slotAt
+slot-fits permutation p = omega arith

@@ -1,0 +1,5 @@
+pub mod Le
+pub mod Version
+pub mod Permuter
+pub mod Layout
+pub mod Ksearch

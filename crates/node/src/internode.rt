@@ -1,0 +1,40 @@
+// An internode's fields (the Rust's internode/accessors.rs), and the version word that leaves and internodes both begin
+// with, by the lent image and the record's offset.
+use crate::le;
+ghost use mathlib.Core.Path.{_≡_};
+ghost use Prim.Native.Nat.{_+_, _≤_, _<_};
+ghost use lib.ListN.{length};
+ghost use Rattle.node.specs.Layout.{InInternode, versionAt, nkeysAt, separatorAt, childAt};
+
+// An internode's bytes. No record has fewer.
+pub const INTERNODE_SIZE: usize = 256;
+
+pub fn version(image: &[u8], at: usize) -> u32
+    requires { ⌜ InInternode (now image) at ⌝ }
+    ensures { λ r. ⌜ r ≡ versionAt (now (image .entry)) at ⌝ }
+{
+    le::u32_at(image, at)
+}
+
+pub fn nkeys(image: &[u8], at: usize) -> u8
+    requires { ⌜ InInternode (now image) at ⌝ }
+    ensures { λ r. ⌜ r ≡ nkeysAt (now (image .entry)) at ⌝ }
+{
+    image[at + 4]
+}
+
+pub fn separator(image: &[u8], at: usize, i: usize) -> u64
+    requires { ⌜ InInternode (now image) at ⌝ }
+    requires { ⌜ i < 15 ⌝ }
+    ensures { λ r. ⌜ r ≡ separatorAt (now (image .entry)) at i ⌝ }
+{
+    le::u64_at(image, at + 8 + 8 * i)
+}
+
+pub fn child(image: &[u8], at: usize, i: usize) -> u64
+    requires { ⌜ InInternode (now image) at ⌝ }
+    requires { ⌜ i < 16 ⌝ }
+    ensures { λ r. ⌜ r ≡ childAt (now (image .entry)) at i ⌝ }
+{
+    le::u64_at(image, at + 128 + 8 * i)
+}
