@@ -2,3 +2,4 @@
 pub mod LeLaws
 pub mod PermuterLaws
 pub mod KsearchLaws
+pub mod HeadingLaws

@@ -3,3 +3,4 @@ pub mod Version
 pub mod Permuter
 pub mod Layout
 pub mod Ksearch
+pub mod Heading

@@ -1,0 +1,2 @@
+-- Laws of the cursor that callers cite.
+pub mod Past

@@ -1,0 +1,12 @@
+pub mod Row
+pub mod Flat
+pub mod Part
+pub mod Held
+pub mod Size
+pub mod Real
+pub mod Ascend
+pub mod Pairs
+pub mod Sieve
+pub mod Bound
+pub mod Walk
+pub mod Descent

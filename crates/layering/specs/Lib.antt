@@ -1,0 +1,5 @@
+pub mod Tree
+pub mod Keys
+pub mod Accepted
+pub mod Ascending
+pub mod Sieve

@@ -1,0 +1,33 @@
+-- The part of a list of pairs that a walk is asked for: those whose keys pass a test, and the tests of the two starts
+-- ("above" a cursor, and "from" it on), in plain byte order.
+use mathlib.Core.Bool.{Bool, true, false}
+use mathlib.Core.List.{List, [], _∷_}
+use Prim.Native.Nat.{ℕ}
+use Rattle.base.specs.Pick.{pick}
+use Rattle.key.specs.Order.{byteOrder}
+use Rattle.key.specs.declared.Ordering.{Ordering}
+use Rattle.key.specs.declared.Ordering.the-variants.{Less, Equal, Greater}
+use Rattle.layering.specs.Keys.{Pair}
+
+-- The pairs whose keys pass the test t, in their order.
+unfoldable pub sieve : (List ℕ → Bool) → List Pair → List Pair
+sieve t [] = []
+sieve t (x ∷ l) = pick (t (x .key)) (x ∷ sieve t l) (sieve t l)
+
+unfoldable pub isLess : Ordering → Bool
+isLess Less = true
+isLess Equal = false
+isLess Greater = false
+
+unfoldable pub isNotGreater : Ordering → Bool
+isNotGreater Less = true
+isNotGreater Equal = true
+isNotGreater Greater = false
+
+-- Whether a key stands above the cursor.
+unfoldable pub isAbove : List ℕ → List ℕ → Bool
+isAbove cursor key = isLess (byteOrder cursor key)
+
+-- Whether a key stands above the cursor or is the cursor's own.
+unfoldable pub isFrom : List ℕ → List ℕ → Bool
+isFrom cursor key = isNotGreater (byteOrder cursor key)

@@ -1,0 +1,2 @@
+pub mod Traversal
+pub mod Helper

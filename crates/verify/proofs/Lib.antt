@@ -1,0 +1,11 @@
+pub mod Going
+pub mod Zeros
+pub mod Fields
+pub mod Records
+pub mod Places
+pub mod Sound
+pub mod Slots
+pub mod Leaves
+pub mod Internodes
+pub mod Layers
+pub mod Theorem

@@ -1,0 +1,269 @@
+-- The check of a leaf's slots ends without a fault exactly where the rules hold of them: by recursion on the slots left. The
+-- check of a layer below comes in as a function, with what is known of it.
+use mathlib.Core.Bool.{Bool, true, false, not, _&&_, false≢true}
+use mathlib.Core.List.{List}
+use mathlib.Core.Path.{_≡_, refl, subst}
+use Prim.Native.Nat.{ℕ, zero, suc, _+_, _^_, _≤_, _<_}
+use native.Mathlib.Numerals.{add-one}
+use native.Mathlib.Omega.{arith}
+use lib.Dec.{leb, eqb}
+use lib.ListN.{length}
+use borrow.Author.Tests.{leb-true, leb-false, le-leb, lt-leb, eqb-true, eqb-false}
+use Rattle.base.specs.Pick.{pick}
+use Rattle.base.proofs.Choice.{pick-ind}
+use Rattle.layering.specs.Tree.{Fields, fieldsAt, Node, Slots, none, value, layer, slotsFrom}
+use Rattle.layering.specs.Accepted.{room, endN, endS, InPostOrderS, ShortPathsS, Before, BeforeFirst, AscendS, InRangeS, LinkedN, LinkedS, FieldsS}
+use Rattle.verify.specs.declared.Progress.{Progress}
+use Rattle.verify.specs.Check.{stop, each, passSuffix, enterLayer, leaveLayer, listed, fits, before, inOrder, inRange, suffixC, layerSlotC, slotC}
+use Rattle.verify.proofs.Going.{says-leb, says-eqb, says-and, says-self, Runs, runs-as, runs-to, runs-here, runs-test, runs-demand, runs-then}
+use Rattle.verify.proofs.Fields.{value-kind, kind-value, layer-kind, kind-layer, says-before, says-range}
+use Rattle.verify.proofs.Places.{lastN, linked-lastN, Within, room-aligned, grownS, alignedN}
+use Rattle.verify.proofs.Sound.{afterN, afterS, behind, after-none, after-value, after-layer, Ready, SoundN, SoundS}
+
+-- The rules for a layer.
+pub record SoundLayer (image : List ℕ) (depth : ℕ) (p : Progress) (n : Node) : Type 0 where
+  pub sound : SoundN image depth 0 (2 ^ 64) p n
+  pub ends : lastN n ≡ 0
+
+-- A check of layers does what it should.
+abbrev pub Layers : List ℕ → ℕ → (ℕ → Progress → Progress) → (ℕ → Node) → Type 0
+Layers image depth sub tree =
+    (root : ℕ) (p : Progress) → Ready image p → p .chained ≡ false
+    → Runs (sub root p) (SoundLayer image depth p (tree root)) (afterN p (tree root))
+
+-- The rules for the slots of a leaf from position i on, n of them, the first behind the slot before it.
+pub record SlotsOk (image : List ℕ) (depth at lo hi i n : ℕ) (p : Progress) (s : Slots) : Type 0 where
+  pub sound : SoundS image depth at lo hi p s
+  pub order : 0 < n → inOrder image at i ≡ true
+
+-- A suffix lies at the place reached and ends before its leaf.
+unfoldable Suffixed : ℕ → Fields → Progress → Type 0
+Suffixed at s p = s .keylenx ≡ 64 → (s .start ≡ p .place) × (s .start + s .len ≤ at)
+
+suffix-runs : (at : ℕ) (s : Fields) (p : Progress)
+    → Runs (pick (eqb (s .keylenx) 64) (suffixC at s p) (passSuffix 0 p)) (Suffixed at s p) (passSuffix (room s) p)
+unfolding Suffixed suffixC room pick
+suffix-runs at s p = go (eqb (s .keylenx) 64) refl
+  where
+    go : (b : Bool) → eqb (s .keylenx) 64 ≡ b → Runs (pick b (suffixC at s p) (passSuffix 0 p)) (Suffixed at s p) (passSuffix (room s) p)
+    go true e =
+        runs-as (λ h q. h) (λ h. h (eqb-true _ _ e))
+        (runs-demand 2 (passSuffix (room s) p) (says-and (says-eqb (s .start) (p .place)) (says-leb (s .start + s .len) at)))
+    go false e = rw e (runs-as (λ h q. absurd (eqb-false _ _ e q)) (λ h. tt) (runs-here (passSuffix 0 p)))
+
+-- the place behind it is before the trailer, as its leaf is
+suffix-before : {n : ℕ} (at : ℕ) (s : Fields) (p : Progress) → at + 432 ≤ n → p .place + 32 ≤ n → Suffixed at s p
+    → p .place + room s + 32 ≤ n
+unfolding Suffixed room
+suffix-before {n} at s p b h f =
+    pick-ind (λ (r : ℕ). p .place + r + 32 ≤ n) (eqb (s .keylenx) 64)
+    (λ e. omega (arith, f (eqb-true _ _ e) .0, f (eqb-true _ _ e) .1)) (λ e. omega arith)
+
+module _ (image : List ℕ) (sub : ℕ → Progress → Progress) (tree : ℕ → Node) (depth at lo hi : ℕ)
+    (layers : Layers image (depth + 1) sub tree) where
+  -- the slot at a position, and the layer below it
+  abbrev slot : ℕ → Fields
+  slot i = fieldsAt image at i
+
+  abbrev below : ℕ → Node
+  below i = tree (slot i .value)
+
+  -- ONE SLOT: its tests, then what is asked of its kind.
+  record Tested (i : ℕ) (S : Type 0) : Type 0 where
+    kind : (listed depth (slot i) ≡ true) × (fits depth (slot i) ≡ true)
+    order : inOrder image at i ≡ true
+    range : (lo ≤ slot i .ikey) × (slot i .ikey < hi)
+    part : S
+
+  tested : {S : Type 0} {x q : Progress} (i : ℕ) → Runs x S q
+      → Runs (pick (not (listed depth (slot i))) (stop 6) (pick (not (fits depth (slot i))) (stop 7)
+      (pick (not (inOrder image at i && inRange lo hi (slot i))) (stop 8) x))) (Tested i S) q
+  tested i r =
+      let ordered = runs-test 7 (says-and (says-self (inOrder image at i)) (says-range lo hi (slot i))) (λ h. r) in
+      let fitting = runs-test 6 (says-self (fits depth (slot i))) (λ h. ordered) in
+      runs-as (λ h. record { kind = (h .0, h .1 .0); order = h .1 .1 .0 .0; range = h .1 .1 .0 .1; part = h .1 .1 .1 })
+      (λ h. (h .kind .0, (h .kind .1, ((h .order, h .range), h .part))))
+      (runs-test 5 (says-self (listed depth (slot i))) (λ h. fitting))
+
+  value-runs : (i : ℕ) (p : Progress) → slot i .keylenx < 128
+      → Runs (slotC sub image depth at lo hi i p) (Tested i (Suffixed at (slot i) p)) (passSuffix (room (slot i)) p)
+  unfolding slotC pick
+  value-runs i p small = rw (lt-leb 128 (slot i .keylenx) small) (tested i (suffix-runs at (slot i) p))
+
+  layer-runs : (i : ℕ) (p : Progress) → Ready image p → 128 ≤ slot i .keylenx
+      → Runs (slotC sub image depth at lo hi i p) (Tested i (SoundLayer image (depth + 1) (enterLayer p) (below i))) (behind p (below i))
+  unfolding slotC pick layerSlotC behind enterLayer afterN
+  layer-runs i p r big =
+      let entered : Ready image (enterLayer p) = record { going = r .going; aligned = r .aligned; before = r .before } in
+      rw (le-leb 128 (slot i .keylenx) big) (tested i (runs-as (λ h. h .0) (λ h. (h, tt))
+      (runs-then (leaveLayer p) (layers (slot i .value) (enterLayer p) entered refl) (r .going) (λ s. runs-here _))))
+
+  -- a slot stands before the next where that one is in order
+  next-order : (i n : ℕ) → (0 < n → inOrder image at (i + 1) ≡ true) → BeforeFirst (slot i) (slotsFrom tree image at (i + 1) n)
+  unfolding BeforeFirst slotsFrom inOrder
+  next-order i zero h = tt
+  next-order i (suc n) h = pick-ind (BeforeFirst (slot i)) (leb 128 (slot (i + 1) .keylenx)) (λ e. follows) (λ e. follows)
+    where
+      follows : Before (slot i) (slot (i + 1))
+      follows = rw add-one (says-before (slot i) (slot (suc i)) .holds (rw add-one at (h (omega arith))))
+
+  order-next : (i n : ℕ) → BeforeFirst (slot i) (slotsFrom tree image at (i + 1) n) → 0 < n → inOrder image at (i + 1) ≡ true
+  unfolding BeforeFirst slotsFrom inOrder
+  order-next i zero b h = absurd (omega arith)
+  order-next i (suc n) b h = rw add-one (says-before (slot i) (slot (suc i)) .passes (rw add-one at (follows b)))
+    where
+      follows : BeforeFirst (slot i) (slotsFrom tree image at (i + 1) (suc n)) → Before (slot i) (slot (i + 1))
+      follows =
+          pick-ind (λ (s : Slots). BeforeFirst (slot i) s → Before (slot i) (slot (i + 1))) (leb 128 (slot (i + 1) .keylenx))
+          (λ e q. q) (λ e q. q)
+
+  -- THE SLOTS from position i on, n of them.
+  abbrev slotsC : ℕ → ℕ → Progress → Progress
+  slotsC i n p = each (slotC sub image depth at lo hi) i n p
+
+  abbrev Sound : ℕ → ℕ → Progress → Slots → Type 0
+  Sound i n p s = SlotsOk image depth at lo hi i n p s
+
+  abbrev Slotted : ℕ → ℕ → Progress → Type 0
+  Slotted i n p = Runs (slotsC i n p) (Sound i n p (slotsFrom tree image at i n)) (afterS p (slotsFrom tree image at i n))
+
+  module _ (in-image : at + 432 ≤ length image) (i n : ℕ) (p : Progress) (r : Ready image p)
+      (rest : (q : Progress) → Ready image q → Slotted (i + 1) n q) where
+    abbrev others : Slots
+    others = slotsFrom tree image at (i + 1) n
+
+    value-more : slot i .keylenx < 128 → Slotted i (suc n) p
+    unfolding each slotsFrom pick InPostOrderS Within endS ShortPathsS AscendS InRangeS LinkedS FieldsS passSuffix Suffixed SoundS
+    value-more small =
+        rw (lt-leb 128 (slot i .keylenx) small)
+        (runs-to (after-value p (slot i) others) (runs-as to from
+        (runs-then (slotsC (i + 1) n) (value-runs i p small) (r .going) (λ h. rest (passSuffix (room (slot i)) p) (ready (h .part))))))
+      where
+        ready : Suffixed at (slot i) p → Ready image (passSuffix (room (slot i)) p)
+        ready h = record {
+          going = r .going;
+          aligned = omega (arith, r .aligned, room-aligned (slot i));
+          before = suffix-before at (slot i) p in-image (r .before) h;
+        }
+
+        Parts : Type 0
+        Parts = Tested i (Suffixed at (slot i) p) × Sound (i + 1) n (passSuffix (room (slot i)) p) others
+
+        to : Parts → Sound i (suc n) p (value (slot i) others)
+        to (t, s) = record {
+          sound = record {
+            post = (λ e. t .part e .0, s .sound .post);
+            before = s .sound .before;
+            within = (λ e. t .part e .1, s .sound .within);
+            paths = s .sound .paths;
+            ascend = (next-order i n (s .order), s .sound .ascend);
+            range = (t .range .0, t .range .1, s .sound .range);
+            links = s .sound .links;
+            fields = (value-kind depth (slot i) small (t .kind), s .sound .fields);
+          };
+          order = λ l. t .order;
+        }
+
+        from : Sound i (suc n) p (value (slot i) others) → Parts
+        from h = (
+          record {
+            kind = kind-value depth (slot i) (h .sound .fields .0);
+            order = h .order (omega arith);
+            range = (h .sound .range .0, h .sound .range .1);
+            part = λ e. (h .sound .post .0 e, h .sound .within .0 e);
+          },
+          record {
+            sound = record {
+              post = h .sound .post .1;
+              before = h .sound .before;
+              within = h .sound .within .1;
+              paths = h .sound .paths;
+              ascend = h .sound .ascend .1;
+              range = h .sound .range .2;
+              links = h .sound .links;
+              fields = h .sound .fields .1;
+            };
+            order = order-next i n (h .sound .ascend .0);
+          },
+        )
+
+    layer-more : 128 ≤ slot i .keylenx → Slotted i (suc n) p
+    unfolding each slotsFrom pick InPostOrderS Within endS ShortPathsS AscendS InRangeS LinkedS FieldsS behind enterLayer leaveLayer afterN SoundN SoundS
+    layer-more big =
+        rw (le-leb 128 (slot i .keylenx) big)
+        (runs-to (after-layer p (slot i) (below i) others) (runs-as to from
+        (runs-then (slotsC (i + 1) n) (layer-runs i p r big) (r .going) (λ h. rest (behind p (below i)) (ready (h .part))))))
+      where
+        ready : SoundLayer image (depth + 1) (enterLayer p) (below i) → Ready image (behind p (below i))
+        ready h = record { going = r .going; aligned = alignedN (below i) (p .place) (r .aligned); before = h .sound .before }
+
+        Parts : Type 0
+        Parts = Tested i (SoundLayer image (depth + 1) (enterLayer p) (below i)) × Sound (i + 1) n (behind p (below i)) others
+
+        to : Parts → Sound i (suc n) p (layer (slot i) (below i) others)
+        to (t, s) = record {
+          sound = record {
+            post = (t .part .sound .post, s .sound .post);
+            before = s .sound .before;
+            within = s .sound .within;
+            paths = (t .part .sound .paths, s .sound .paths);
+            ascend = (next-order i n (s .order), t .part .sound .ascend, s .sound .ascend);
+            range = (t .range .0, t .range .1, t .part .sound .range, s .sound .range);
+            links = (subst (λ (x : ℕ). LinkedN x (below i)) (t .part .ends) (t .part .sound .links), s .sound .links);
+            fields = (layer-kind depth (slot i) big (t .kind .1), t .part .sound .fields, s .sound .fields);
+          };
+          order = λ l. t .order;
+        }
+
+        from : Sound i (suc n) p (layer (slot i) (below i) others) → Parts
+        from h =
+            let ends : lastN (below i) ≡ 0 = linked-lastN (below i) 0 (h .sound .links .0) in (
+              record {
+                kind = kind-layer depth (slot i) big (h .sound .fields .0);
+                order = h .order (omega arith);
+                range = (h .sound .range .0, h .sound .range .1);
+                part = record {
+                  sound = record {
+                    post = h .sound .post .0;
+                    before = omega (arith, h .sound .before, grownS others (endN (p .place) (below i)));
+                    paths = h .sound .paths .0;
+                    ascend = h .sound .ascend .1;
+                    range = h .sound .range .2;
+                    first = λ e. absurd (false≢true e);
+                    links = rw ends (h .sound .links .0);
+                    fields = h .sound .fields .1;
+                  };
+                  ends = ends;
+                };
+              },
+              record {
+                sound = record {
+                  post = h .sound .post .1;
+                  before = h .sound .before;
+                  within = h .sound .within;
+                  paths = h .sound .paths .1;
+                  ascend = h .sound .ascend .2;
+                  range = h .sound .range .3;
+                  links = h .sound .links .1;
+                  fields = h .sound .fields .2;
+                };
+                order = order-next i n (h .sound .ascend .0);
+              },
+            )
+
+  pub slots-run : at + 432 ≤ length image → (n i : ℕ) (p : Progress) → Ready image p
+      → Runs (each (slotC sub image depth at lo hi) i n p) (SlotsOk image depth at lo hi i n p (slotsFrom tree image at i n))
+      (afterS p (slotsFrom tree image at i n))
+  unfolding each slotsFrom InPostOrderS Within endS ShortPathsS AscendS InRangeS LinkedS FieldsS SoundS
+  slots-run in-image zero i p r = runs-to (after-none p) (runs-as (λ h. nothing) (λ h. tt) (runs-here p))
+    where
+      nothing : Sound i 0 p none
+      nothing = record {
+        sound = record { post = tt; before = r .before; within = tt; paths = tt; ascend = tt; range = tt; links = tt; fields = tt };
+        order = λ l. absurd (omega arith);
+      }
+  slots-run in-image (suc n) i p r = go (leb 128 (slot i .keylenx)) refl (slots-run in-image n (i + 1))
+    where
+      go : (b : Bool) → leb 128 (slot i .keylenx) ≡ b → ((q : Progress) → Ready image q → Slotted (i + 1) n q) → Slotted i (suc n) p
+      go true e rest = layer-more in-image i n p r rest (leb-true _ _ e)
+      go false e rest = value-more in-image i n p r rest (leb-false _ _ e)
