@@ -1,19 +1,15 @@
 -- What the length test says of an image's length. Assumes nothing.
-use mathlib.Core.Path.{_≡_, refl}
-use mathlib.Core.Bool.{Bool, true, false, _&&_, false≢true}
+use mathlib.Core.Path.{_≡_}
+use mathlib.Core.Bool.{true, _&&_, and-eq-true-iff}
 use Prim.Native.Nat.{ℕ, _%_, _≤_}
 use lib.Dec.{leb, eqb}
 use borrow.Author.Tests.{leb-true, eqb-true}
 use Rattle.node.specs.Heading.{lengthOk}
 
-and-both : (a b : Bool) → (a && b) ≡ true → (a ≡ true) × (b ≡ true)
-and-both true b e = (refl, e)
-and-both false b e = absurd (false≢true e)
-
 -- 01's number 1 is not met
 pub length-fits : (n : ℕ) → lengthOk n ≡ true → (440 ≤ n) × (n ≤ 16777216) × (n % 8 ≡ 0)
 unfolding lengthOk
 length-fits n e =
-    let a = and-both (leb 440 n) (leb n 16777216 && eqb (n % 8) 0) e in
-    let b = and-both (leb n 16777216) (eqb (n % 8) 0) (a .1) in
+    let a = and-eq-true-iff (leb 440 n) (leb n 16777216 && eqb (n % 8) 0) .0 e in
+    let b = and-eq-true-iff (leb n 16777216) (eqb (n % 8) 0) .0 (a .1) in
     (leb-true 440 n (a .0), leb-true n 16777216 (b .0), eqb-true (n % 8) 0 (b .1))

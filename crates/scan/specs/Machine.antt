@@ -14,19 +14,19 @@ use Rattle.cursor.specs.RangeBound.{boundOf}
 use Rattle.cursor.specs.declared.cursor_key.CursorKey.{CursorKey}
 use Rattle.cursor.specs.declared.cursor_key.CursorPlace.{CursorPlace}
 use Rattle.cursor.specs.declared.range_bound.RangeBound.{RangeBound}
-use Rattle.scan.specs.Moves.{findStart, findRetry, handleDown, handleUp, findNext}
+use Rattle.moves.specs.Moves.{findStart, findRetry, handleDown, handleUp, findNext}
 use Rattle.scan.specs.declared.scan_state.StartMode.{StartMode}
 use Rattle.scan.specs.declared.scan_state.StartMode.the-variants.{Above, From}
 use Rattle.scan.specs.declared.scan_state.LayerContext.{LayerContext}
 use Rattle.scan.specs.declared.scan_state.WalkState.{WalkState}
 use Rattle.scan.specs.declared.scan_state.WalkState.the-variants.{Start, Retry, FindNext, Ended}
 use Rattle.scan.specs.declared.scan_state.Walk.{Walk}
-use Rattle.scan.specs.declared.scan_state.ScanState.{ScanState}
-use Rattle.scan.specs.declared.scan_state.ScanState.the-variants as loop
-use Rattle.scan.specs.declared.scan_state.ScanCtx.{ScanCtx}
-use Rattle.scan.specs.declared.scan_state.Outcome.{Outcome}
-use Rattle.scan.specs.declared.scan_state.Outcome.the-variants.{Continue, Push, Emit, Exhausted, Fault}
-use Rattle.scan.specs.declared.scan_state.Pass.{Pass}
+use Rattle.moves.specs.declared.scan_state.ScanState.{ScanState}
+use Rattle.moves.specs.declared.scan_state.ScanState.the-variants as loop
+use Rattle.moves.specs.declared.scan_state.ScanCtx.{ScanCtx}
+use Rattle.moves.specs.declared.scan_state.Outcome.{Outcome}
+use Rattle.moves.specs.declared.scan_state.Outcome.the-variants.{Continue, Push, Emit, Exhausted, Fault}
+use Rattle.moves.specs.declared.scan_state.Pass.{Pass}
 use Rattle.scan.specs.declared.scan_state.Placed.{Placed}
 use Rattle.scan.specs.declared.scan_state.Answer.{Answer}
 use Rattle.scan.specs.declared.scan_state.Answer.the-variants.{Key, Nothing, Declined}

@@ -1,8 +1,221 @@
-// The moves of the loop (the Rust's forward_ctx.rs).
+// The loop (the Rust's advance_no_alloc): it holds the layer stack, and makes moves until a key is out or the walk ends.
+use crate::scan_state::Answer;
+use crate::scan_state::LayerContext;
+use crate::scan_state::Stepped;
+use crate::scan_state::Walk;
+use crate::scan_state::WalkState;
+use cursor::cursor_key::CursorKey;
+use cursor::cursor_key::CursorPlace;
+use cursor::range_bound::RangeBound;
+use moves::forward_ctx;
+use moves::scan_state::Outcome;
+use moves::scan_state::ScanCtx;
+use moves::scan_state::ScanState;
+ghost use mathlib.Core.Path.{_≡_};
+ghost use mathlib.Core.Bool.{true};
+ghost use Prim.Native.Nat.{_<_};
+ghost use lib.ListN.{length};
+ghost use Rattle.scan.specs.Machine.{scanState, lastIkey, entered, walkOk};
+ghost use Rattle.scan.specs.Loop.{isUp, poppedTo, walkWith, advance};
 
-// The duplicate check's answer: the slot is new to the walk; the cursor has come to it or passed it; it cannot be read.
-pub enum Duplicate {
-    No,
-    Yes,
-    Fault,
+// The loop's state at the start of a call.
+fn scan_state(state: WalkState) -> ScanState
+    ensures { λ r. ⌜ r ≡ scanState state ⌝ }
+{
+    match state {
+        WalkState::Start => ScanState::Start,
+        WalkState::Retry => ScanState::Retry,
+        WalkState::FindNext => ScanState::FindNext,
+        WalkState::Ended => ScanState::Up,
+    }
+}
+
+// The last ikey handed out, at the start of a call.
+fn last_ikey(state: WalkState, ikey: u64) -> u64
+    ensures { λ r. ⌜ r ≡ lastIkey state ikey ⌝ }
+{
+    match state {
+        WalkState::Start => 0,
+        WalkState::Retry => 0,
+        WalkState::FindNext => ikey,
+        WalkState::Ended => 0,
+    }
+}
+
+fn is_up(state: ScanState) -> bool
+    ensures { λ r. ⌜ r ≡ isUp state ⌝ }
+{
+    match state {
+        ScanState::Start => false,
+        ScanState::Retry => false,
+        ScanState::FindNext => false,
+        ScanState::Down => false,
+        ScanState::Up => true,
+    }
+}
+
+// The layer above is the walk's again.
+fn pop_to(c: ScanCtx, parent: LayerContext) -> ScanCtx
+    requires { ⌜ 0 < c .depth ⌝ }
+    ensures { λ r. ⌜ r ≡ poppedTo c parent ⌝ }
+{
+    let position = c.position;
+    let cursor = c.cursor;
+    let state = c.state;
+    ScanCtx {
+        root: parent.root,
+        leaf: parent.leaf,
+        position: position,
+        cursor: cursor,
+        depth: c.depth - 1,
+        state: state,
+        dup: c.dup,
+        last: c.last,
+    }
+}
+
+// The layer that was found is the walk's from now on.
+fn enter(c: ScanCtx, root: u64) -> ScanCtx
+    requires { ⌜ c .depth < 31 ⌝ }
+    ensures { λ r. ⌜ r ≡ entered root c ⌝ }
+{
+    let position = c.position;
+    let cursor = c.cursor;
+    let state = c.state;
+    ScanCtx {
+        root: root,
+        leaf: c.leaf,
+        position: position,
+        cursor: cursor,
+        depth: c.depth + 1,
+        state: state,
+        dup: c.dup,
+        last: c.last,
+    }
+}
+
+// The walk after a call.
+fn walk_of(
+    image_len: usize,
+    bound: RangeBound,
+    state: WalkState,
+    c: ScanCtx,
+    buf: [u8; 256],
+    stack: [LayerContext; 31],
+) -> Walk
+    ensures { λ r. ⌜ r ≡ walkWith «image_len» bound state c buf stack ⌝ }
+{
+    let k = c.cursor;
+    let position = c.position;
+    Walk {
+        image_len: image_len,
+        root: c.root,
+        leaf: c.leaf,
+        position: position,
+        cursor: CursorKey {
+            buf: buf,
+            offset: k.offset,
+            len: k.len,
+            ikey: k.ikey,
+        },
+        depth: c.depth,
+        stack: stack,
+        bound: bound,
+        state: state,
+    }
+}
+
+// Moves until a key is out, the end, 22 or 23.
+pub fn advance_no_alloc(walk: Walk, image: &[u8]) -> Stepped
+    requires { ⌜ walkOk walk (length (now image)) ≡ true ⌝ }
+    ensures { λ r. ⌜ r ≡ advance walk (now (image .entry)) ⌝ }
+{
+    let bound = walk.bound;
+    let bound_key = bound.key;
+    let kind = bound.kind;
+    let bound_len = bound.len;
+    let end = key::part_of(&bound_key, 0, bound_len);
+    let cursor = walk.cursor;
+    let state = walk.state;
+    let position = walk.position;
+    let mut buf = cursor.buf;
+    let mut stack = walk.stack;
+    let mut c = ScanCtx {
+        root: walk.root,
+        leaf: walk.leaf,
+        position: position,
+        cursor: CursorPlace {
+            offset: cursor.offset,
+            len: cursor.len,
+            ikey: cursor.ikey,
+        },
+        depth: walk.depth,
+        state: scan_state(state),
+        dup: false,
+        last: last_ikey(state, cursor.ikey),
+    };
+    let mut moves = 0;
+    while moves < image.len() {
+        moves += 1;
+        let now = c.state;
+        if is_up(now) {
+            let depth = c.depth;
+            if depth == 0 {
+                return Stepped {
+                    answer: Answer::Nothing,
+                    moves: moves,
+                    walk: walk_of(walk.image_len, bound, WalkState::Ended, c, buf, stack),
+                };
+            }
+            let parent = stack[depth - 1];
+            stack[depth - 1] = LayerContext { root: 0, leaf: 0 };
+            c = pop_to(c, parent);
+        }
+        let p = forward_ctx::one_move(image, kind, end, &mut buf, c);
+        let outcome = p.outcome;
+        let next = p.ctx;
+        match outcome {
+            Outcome::Continue => {
+                c = next;
+            }
+            Outcome::Push(root) => {
+                let depth = next.depth;
+                stack[depth] = LayerContext {
+                    root: next.root,
+                    leaf: next.leaf,
+                };
+                c = enter(next, root);
+            }
+            Outcome::Emit(value) => {
+                let k = next.cursor;
+                return Stepped {
+                    answer: Answer::Key {
+                        len: k.offset + k.len,
+                        value: value,
+                    },
+                    moves: moves,
+                    walk: walk_of(walk.image_len, bound, WalkState::FindNext, next, buf, stack),
+                };
+            }
+            Outcome::Exhausted => {
+                return Stepped {
+                    answer: Answer::Nothing,
+                    moves: moves,
+                    walk: walk_of(walk.image_len, bound, WalkState::Ended, next, buf, stack),
+                };
+            }
+            Outcome::Fault => {
+                return Stepped {
+                    answer: Answer::Declined(22),
+                    moves: 0,
+                    walk: walk,
+                };
+            }
+        }
+    }
+    Stepped {
+        answer: Answer::Declined(23),
+        moves: 0,
+        walk: walk,
+    }
 }

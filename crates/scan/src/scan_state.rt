@@ -1,6 +1,5 @@
-// What a walk and its loop keep (the Rust's scan_state.rs).
+// What a walk keeps between calls, and what its calls answer (the Rust's scan_state.rs).
 use cursor::cursor_key::CursorKey;
-use cursor::cursor_key::CursorPlace;
 use cursor::range_bound::RangeBound;
 use node::permuter::Position;
 
@@ -35,45 +34,6 @@ pub struct Walk {
     pub stack: [LayerContext; 31],
     pub bound: RangeBound,
     pub state: WalkState,
-}
-
-// What the loop does next: the Rust's states without Emit, and Start.
-pub enum ScanState {
-    Start,
-    Retry,
-    FindNext,
-    Down,
-    Up,
-}
-
-// What goes from move to move by value: the Rust's ForwardScanCtx without its buffer and its layer stack, which the loop
-// holds. `depth` is how many of the stack's entries are in use; `dup` is the Rust's needs_duplicate_check, `last` its
-// last_ikey.
-pub struct ScanCtx {
-    pub root: u64,
-    pub leaf: u64,
-    pub position: Position,
-    pub cursor: CursorPlace,
-    pub depth: usize,
-    pub state: ScanState,
-    pub dup: bool,
-    pub last: u64,
-}
-
-// What a move comes to: the loop goes on; a layer is entered, whose root is given; a key is out, with its value; the walk
-// is at its end; the image cannot be read (22).
-pub enum Outcome {
-    Continue,
-    Push(u64),
-    Emit(u64),
-    Exhausted,
-    Fault,
-}
-
-// One move.
-pub struct Pass {
-    pub outcome: Outcome,
-    pub ctx: ScanCtx,
 }
 
 // A placing: 01's number, 0 where it was not declined, and the walk.

@@ -15,7 +15,7 @@ use Rattle.cursor.specs.CursorKey.{fromSlice, shiftClear, unshift, hasSuffix, s
 use Rattle.cursor.specs.RangeBound.{admits, contains, boundOf}
 use Rattle.search.specs.Traversal.{readable, recordAt, byKind, leafThere, childFor, reachFrom, reach}
 use Rattle.search.specs.Helper.{byOrder, lowerFrom, lowerWithPosition, suffixReadable, suffixBytes, storedIs, storedOrder, notShorter, afterInline, notBelow, afterSuffix, behind, pastLayer, pastInline, pastSuffix, atMatch, atFound, lowerWithSuffix, below, startFrom, startPosition}
-use Rattle.scan.specs.Moves.{faulted, standing, startIn, findStart, retryIn, findRetry, handleDown, handleUp, advanceLeaf, dupBySuffix, dupOf, kept, onward, emitKey, takeInline, takeSuffixed, takeLayer, takeSlot, unlessDup, backToRetry, findSlot, findNext}
+use Rattle.moves.specs.Moves.{faulted, standing, startIn, findStart, retryIn, findRetry, handleDown, handleUp, advanceLeaf, dupBySuffix, dupOf, kept, onward, emitKey, takeInline, takeSuffixed, takeLayer, takeSlot, unlessDup, backToRetry, findSlot, findNext}
 use Rattle.scan.specs.Machine.{emptyContext, zeroWalk, placeFault, startState, freshWalk, place, moved, entered, stacked, pushing, popped, unstacked, moveIn, move, after, run, walkOk, scanState, lastIkey, isEnded, scanOf, walkOf, stepped, finished, step}
 use Rattle.survey.specs.Sample.{leBytes, station, dead, layerSlot, maskFrom, words, column, leafBytes, imageOf, oneLeaf}
 use Rattle.survey.specs.Examples.{onAnswer, hand, asked, answered, machineSays, paperSays, treeA, entrance, treeB, pair, gives, walking, table}

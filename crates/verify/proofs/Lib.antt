@@ -9,3 +9,9 @@ pub mod Leaves
 pub mod Internodes
 pub mod Layers
 pub mod Theorem
+pub mod Turns
+pub mod Ends
+pub mod SlotTests
+pub mod Steps
+pub mod Bounds
+pub mod Cycle

@@ -2,7 +2,8 @@
 -- Rust's forward_ctx.rs). A move takes what goes by value, `c`, and the buffer; the loop holds the stack.
 use mathlib.Core.Bool.{Bool, true, false, not, _&&_}
 use mathlib.Core.List.{List}
-use Prim.Native.Nat.{ℕ, _+_}
+use mathlib.Core.Path.{_≡_}
+use Prim.Native.Nat.{ℕ, _+_, _≤_}
 use lib.Dec.{leb, ltb, eqb}
 use lib.ListN.{length, take}
 use Rattle.base.specs.Pick.{pick}
@@ -20,14 +21,14 @@ use Rattle.search.specs.declared.helper.Searched.{Searched}
 use Rattle.search.specs.declared.helper.Searched.the-variants.{At, Fault as SearchedFault}
 use Rattle.search.specs.declared.traversal.Reached.{Reached}
 use Rattle.search.specs.declared.traversal.Reached.the-variants.{Leaf as ReachedLeaf, Fault as ReachedFault}
-use Rattle.scan.specs.declared.scan_state.ScanState.{ScanState}
-use Rattle.scan.specs.declared.scan_state.ScanState.the-variants.{Start, Retry, FindNext, Down, Up}
-use Rattle.scan.specs.declared.scan_state.ScanCtx.{ScanCtx}
-use Rattle.scan.specs.declared.scan_state.Outcome.{Outcome}
-use Rattle.scan.specs.declared.scan_state.Outcome.the-variants.{Continue, Push, Emit, Exhausted, Fault}
-use Rattle.scan.specs.declared.scan_state.Pass.{Pass}
-use Rattle.scan.specs.declared.forward_ctx.Duplicate.{Duplicate}
-use Rattle.scan.specs.declared.forward_ctx.Duplicate.the-variants.{No, Yes, Fault as DupFault}
+use Rattle.moves.specs.declared.scan_state.ScanState.{ScanState}
+use Rattle.moves.specs.declared.scan_state.ScanState.the-variants.{Start, Retry, FindNext, Down, Up}
+use Rattle.moves.specs.declared.scan_state.ScanCtx.{ScanCtx}
+use Rattle.moves.specs.declared.scan_state.Outcome.{Outcome}
+use Rattle.moves.specs.declared.scan_state.Outcome.the-variants.{Continue, Push, Emit, Exhausted, Fault}
+use Rattle.moves.specs.declared.scan_state.Pass.{Pass}
+use Rattle.moves.specs.declared.forward_ctx.Duplicate.{Duplicate}
+use Rattle.moves.specs.declared.forward_ctx.Duplicate.the-variants.{No, Yes, Fault as DupFault}
 
 -- A move that meets 22 leaves all as it was.
 unfoldable pub faulted : ScanCtx → Pass
@@ -84,11 +85,12 @@ dupBySuffix SuffixGreater = Yes
 dupBySuffix NoSuffix = Yes
 dupBySuffix SuffixFault = DupFault
 
+abbrev pub dupLevel : List ℕ → List ℕ → ScanCtx → Slot → Duplicate
+dupLevel image buf c s = pick (hasSuffix (c .cursor)) (dupBySuffix (storedOrder image (c .leaf) (c .cursor) buf s)) Yes
+
 unfoldable pub dupOf : List ℕ → List ℕ → ScanCtx → Slot → Duplicate
 dupOf image buf c s =
-    byOrder (compareSlot (c .cursor) (ikeyAt image (c .leaf) s) (keylenxAt image (c .leaf) s)) No
-    (pick (hasSuffix (c .cursor)) (dupBySuffix (storedOrder image (c .leaf) (c .cursor) buf s)) Yes)
-    Yes
+    byOrder (compareSlot (c .cursor) (ikeyAt image (c .leaf) s) (keylenxAt image (c .leaf) s)) No (dupLevel image buf c s) Yes
 
 -- A pass with the buffer after it. Only a slot that is taken changes the buffer.
 pub record Taken : Type 0 where
@@ -188,3 +190,22 @@ findNext image kind bound buf c =
     pick (not (leafThere image (c .leaf))) (kept buf (faulted c))
     (pick (leb (sizeOf (permutationAt image (c .leaf))) (c .position .0)) (kept buf (advanceLeaf image buf c))
     (findSlot image kind bound buf c (slotIn image (c .leaf) (c .position .0))))
+
+-- One move in each state; before Up the layer above has been taken back.
+unfoldable pub passIn : ScanState → List ℕ → ℕ → List ℕ → List ℕ → ScanCtx → Taken
+passIn Start image kind bound buf c = kept buf (findStart image c)
+passIn Retry image kind bound buf c = kept buf (findRetry image buf c)
+passIn FindNext image kind bound buf c = findNext image kind bound buf c
+passIn Down image kind bound buf c = kept buf (handleDown c)
+passIn Up image kind bound buf c = kept buf (handleUp image buf c)
+
+-- What a move asks of the numbers: the key within the buffer, and a layer above for Up.
+unfoldable pub InBuffer : ScanState → ScanCtx → Type 0
+InBuffer Start c = Unit {0}
+InBuffer Retry c = c .cursor .offset + c .cursor .len ≤ 256
+InBuffer FindNext c = (c .position .0 ≤ 15) × (c .cursor .offset ≤ 248) × (c .cursor .offset + c .cursor .len ≤ 256)
+InBuffer Down c = c .cursor .offset ≤ 256
+InBuffer Up c = (8 ≤ c .cursor .offset) × (c .cursor .offset ≤ 248)
+
+abbrev pub MoveOk : ScanCtx → Type 0
+MoveOk c = InBuffer (c .state) c

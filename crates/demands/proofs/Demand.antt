@@ -1,0 +1,63 @@
+-- DEMAND 3: for every accepted image, and every placing over it that is taken, one claim about the whole list of steps
+-- (01: "Demand 3 is one claim about its whole list, not one for each step"). The idea of the proof: the machine over
+-- the image follows a machine over the row of the tree, whose potential pays for every move (proofs/Follow.antt,
+-- Run.antt and Steps.antt).
+use mathlib.Core.Path.{_≡_, ap}
+use mathlib.Core.List.{List}
+use Prim.Native.Nat.{ℕ, _+_, _*_, _≤_, _<_}
+use lib.ListN.{length, getD}
+use Rattle.cursor.specs.RangeBound.{contains}
+use Rattle.layering.specs.Keys.{Pair, livePairs}
+use Rattle.layering.specs.Ascending.{Ascending}
+use Rattle.layering.specs.Sieve.{sieve}
+use Rattle.verify.specs.Check.{accepted, check}
+use Rattle.verify.specs.declared.Counts.{Counts}
+use Rattle.verify.proofs.Theorem.{accepted-obeys, treeCounts}
+use Rattle.scan.specs.Machine.{place, step}
+use Rattle.scan.specs.declared.scan_state.StartMode.{StartMode}
+use Rattle.scan.specs.declared.scan_state.Walk.{Walk}
+use Rattle.scan.specs.declared.scan_state.Answer.the-variants.{Declined}
+use Rattle.demands.specs.Demand.{steps, Lent, said, movesOf, past, rowOf, due}
+use Rattle.demands.proofs.Steps.{other-length}
+use Rattle.demands.proofs.Whole.{taken, takes, row-in-order, fresh-steps}
+
+-- Over an image that the check accepts, with c its three numbers; a placing that is taken, in either mode; and any list of steps,
+-- each given the walk as the one before left it (`steps`) and lent that image or bytes of another length (`Lent`):
+--
+-- What the steps say is what is due. One lent the image hands out the next of the row, or none once the row is out, and so is never
+-- declined, not with 22 or 23 either; one lent another length is declined with 21. The row is the image's live pairs, written down by
+-- the paper's layering, past the start and within the bound. And all steps together make no more moves than there are leaves, value
+-- slots, four for each sub-layer, and two.
+pub demand-3 : (image : List ℕ) → ((i : ℕ) → getD image i 0 < 256) → (c : Counts) → check image ≡ accepted c
+    → (mode : StartMode) (cursor : List ℕ) → ((i : ℕ) → getD cursor i 0 < 256) → (kind : ℕ) (bound : List ℕ)
+    → place image mode cursor kind bound .code ≡ 0 → (lents : List (List ℕ)) → Lent image lents
+    → (said (steps (place image mode cursor kind bound .walk) lents) ≡ due image lents (rowOf image mode cursor kind bound))
+    × (movesOf (steps (place image mode cursor kind bound .walk) lents) ≤ c .leaves + c .«value_slots» + 4 * c .«sub_layers» + 2)
+unfolding treeCounts
+demand-3 image b c a mode cursor bc kind bound e lents l =
+    let o = accepted-obeys image c a in
+    let t = taken image mode cursor kind bound e in
+    rw (t .0, o .1) (fresh-steps image b (o .0) mode cursor bc kind bound (t .1) lents l)
+
+-- The placings over an accepted image that are taken: cursor, kind and bound in their limits.
+pub is-taken : (image : List ℕ) (c : Counts) → check image ≡ accepted c → (mode : StartMode) (cursor : List ℕ) (kind : ℕ) (bound : List ℕ)
+    → length cursor ≤ 8 → kind ≤ 2 → length bound ≤ 256 → place image mode cursor kind bound .code ≡ 0
+is-taken image c a = takes image (accepted-obeys image c a .0)
+
+-- "foreign-length steps are declined with 21 and change nothing", whatever the walk.
+pub foreign : (w : Walk) (lent : List ℕ) → (length lent ≡ w .«image_len» → ⊥)
+    → step w lent ≡ record { answer = Declined 21; moves = 0; walk = w }
+foreign = other-length
+
+-- "each once, ascending": the row ascends strictly in plain byte order.
+pub row-ascends : (image : List ℕ) → ((i : ℕ) → getD image i 0 < 256) → (c : Counts) → check image ≡ accepted c
+    → (mode : StartMode) (cursor : List ℕ) (kind : ℕ) (bound : List ℕ) → Ascending (rowOf image mode cursor kind bound)
+row-ascends image b c a = row-in-order image b (accepted-obeys image c a .0)
+
+-- The row goes by the live pairs alone: images that hold the same ones give the same row.
+pub same-row : (image other : List ℕ) → livePairs image ≡ livePairs other
+    → (mode : StartMode) (cursor : List ℕ) (kind : ℕ) (bound : List ℕ)
+    → rowOf image mode cursor kind bound ≡ rowOf other mode cursor kind bound
+unfolding rowOf
+same-row image other e mode cursor kind bound =
+    ap (λ (l : List Pair). sieve (contains kind bound) (sieve (past mode cursor) l)) e

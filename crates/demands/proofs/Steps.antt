@@ -1,0 +1,145 @@
+-- Steps of a walk, and every list of them. Proved: a step lent the walk's image says the head of what is left, and one
+-- lent another length changes nothing; hence what a list of steps says, and that its moves are no more than the
+-- potential.
+use mathlib.Core.Path.{_≡_, refl, ap, sym, _∙_, subst}
+use mathlib.Core.List.{List, [], _∷_}
+use mathlib.Core.Bool.{Bool, true, false, true≢false, false≢true}
+use mathlib.Core.Logic.{inl, inr}
+use Prim.Native.Nat.{ℕ, _+_, _*_, _≤_}
+use native.Mathlib.Omega.{arith}
+use lib.ListN.{length, take}
+use borrow.Author.Tests.{le-leb, eq-eqb, ne-eqb}
+use Rattle.base.specs.Pick.{pick}
+use Rattle.base.proofs.Choice.{pick-ind}
+use Rattle.cursor.specs.RangeBound.{contains}
+use Rattle.cursor.specs.declared.range_bound.RangeBound.{RangeBound}
+use Rattle.layering.proofs.Sieve.{front}
+use Rattle.layering.proofs.Walk.{Conf, over, rest, left, pot}
+use Rattle.scan.specs.Machine.{Ran, run, walkOk, scanState, lastIkey, isEnded, scanOf, walkOf, stepped, finished, step}
+use Rattle.scan.specs.declared.scan_state.WalkState.the-variants.{Ended}
+use Rattle.scan.specs.declared.scan_state.Walk.{Walk}
+use Rattle.scan.specs.declared.scan_state.Answer.the-variants.{Nothing, Declined}
+use Rattle.scan.specs.declared.scan_state.Stepped.{Stepped}
+use Rattle.demands.specs.Demand.{steps, Lent, Said, handsOut, declines, saidWith, said, movesOf, headSaid, tailOf, due}
+use Rattle.demands.proofs.Relation.{Fit, resumed, Rep}
+use Rattle.demands.proofs.Run.{Came, out, end, comes}
+
+-- ANOTHER LENGTH is declined, and the walk is as it came.
+pub other-length : (w : Walk) (lent : List ℕ) → (length lent ≡ w .«image_len» → ⊥)
+    → step w lent ≡ record { answer = Declined 21; moves = 0; walk = w }
+unfolding step walkOk pick
+other-length w lent h = rw (ne-eqb (w .«image_len») (length lent) (λ e. h (sym e)))
+
+-- What a walk's bound admits.
+abbrev pub admitted : RangeBound → List ℕ → Bool
+admitted B = contains (B .kind) (take (B .len) (B .key))
+
+-- A walk between calls stands where the walk over rows stands, or both are at their end. B is its bound.
+module _ (image : List ℕ) (B : RangeBound) where
+  pub data Stage (w : Walk) : Conf → Type 0 where
+    ended : w .state ≡ Ended → Stage w over
+    going : {c : Conf} → isEnded (w .state) ≡ false → Rep image (B .kind) (take (B .len) (B .key)) (scanOf w) c
+        → Stage w c
+
+  pub record Walks (w : Walk) (c : Conf) : Type 0 where
+    pub same-length : w .«image_len» ≡ length image
+    pub same-bound : w .bound ≡ B
+    pub fit : Fit (scanOf w)
+    pub stage : Stage w c
+
+  -- What a step of it comes to: the head of what was left is said and its tail is left, and the potential pays for the
+  -- moves.
+  pub record Paid (c : Conf) (t : Stepped) : Type 0 where
+    pub to : Conf
+    pub walks : Walks (t .walk) to
+    pub head : saidWith (t .answer) t ≡ headSaid (left (admitted B) c)
+    pub tail : left (admitted B) to ≡ tailOf (left (admitted B) c)
+    pub cost : t .moves + pot to ≤ pot c
+
+  module _ (kind-ok : B .kind ≤ 2) (len-ok : B .len ≤ 256) where
+    walk-ok : (w : Walk) (c : Conf) → Walks w c → walkOk w (length image) ≡ true
+    unfolding walkOk scanOf
+    walk-ok w c h =
+        rw (
+          eq-eqb (w .«image_len») (length image) (h .same-length),
+          le-leb (w .depth) 31 (h .fit .deep),
+          eq-eqb (w .cursor .offset) (8 * w .depth) (h .fit .offset),
+          le-leb (w .cursor .offset + w .cursor .len) 256 (h .fit .fits),
+          le-leb (w .position .0) 15 (h .fit .place),
+          le-leb (w .bound .kind) 2 (subst (λ (z : RangeBound). z .kind ≤ 2) (sym (h .same-bound)) kind-ok),
+          le-leb (w .bound .len) 256 (subst (λ (z : RangeBound). z .len ≤ 256) (sym (h .same-bound)) len-ok),
+        )
+
+    -- a run is over
+    finishes : (w : Walk) (c : Conf) → w .«image_len» ≡ length image → w .bound ≡ B → {r : Ran}
+        → Came image (B .kind) (take (B .len) (B .key)) c 0 r → Paid c (finished w r)
+    unfolding finished stepped saidWith headSaid tailOf walkOf scanOf scanState lastIkey isEnded resumed left rest front
+        pot
+    finishes w c a b (out x c′ n s e h fit rep key) = record {
+      to = c′;
+      walks = record {
+        same-length = a;
+        same-bound = b;
+        fit = record { deep = fit .deep; offset = fit .offset; fits = fit .fits; place = fit .place };
+        stage = going refl rep;
+      };
+      head = ap (λ (t : List ℕ). handsOut (record { key = t; value = x .value })) (sym key) ∙ ap headSaid (sym e);
+      tail = ap tailOf (sym e);
+      cost = omega arith;
+    }
+    finishes w c a b (end n s e h fit) = record {
+      to = over;
+      walks = record {
+        same-length = a;
+        same-bound = b;
+        fit = record { deep = fit .deep; offset = fit .offset; fits = fit .fits; place = fit .place };
+        stage = ended refl;
+      };
+      head = ap headSaid (sym e);
+      tail = ap tailOf (sym e);
+      cost = omega arith;
+    }
+
+    -- A STEP
+    pays-in : (w : Walk) (c : Conf) → w .«image_len» ≡ length image → w .bound ≡ B → Fit (scanOf w)
+        → pot c ≤ length image → Stage w c
+        → Paid c (pick (isEnded (w .state)) (record { answer = Nothing; moves = 0; walk = w })
+        (finished w (run image (w .bound .kind) (take (w .bound .len) (w .bound .key)) (length image) 0
+        (scanOf w))))
+    unfolding saidWith headSaid tailOf left rest front pot isEnded
+    pays-in w c a b fit k (ended e) =
+        pick-ind (Paid over) (isEnded (w .state))
+        (λ t. record {
+          to = over;
+          walks = record { same-length = a; same-bound = b; fit = fit; stage = ended e };
+          head = refl;
+          tail = refl;
+          cost = omega arith;
+        })
+        (λ t. absurd (true≢false (sym (ap isEnded e) ∙ t)))
+    pays-in w c a b fit k (going e rep) =
+        pick-ind (Paid c) (isEnded (w .state)) (λ t. absurd (false≢true (sym e ∙ t)))
+        (λ t.
+        subst
+        (λ (z : RangeBound). Paid c
+        (finished w (run image (z .kind) (take (z .len) (z .key)) (length image) 0 (scanOf w)))) (sym b)
+        (finishes w c a b (comes image (B .kind) (take (B .len) (B .key)) (length image) 0 (scanOf w) c rep k)))
+
+    pays : (w : Walk) (c : Conf) → Walks w c → pot c ≤ length image → Paid c (step w image)
+    unfolding step pick
+    pays w c h k = rw (walk-ok w c h) (pays-in w c (h .same-length) (h .same-bound) (h .fit) k (h .stage))
+
+    -- EVERY LIST OF STEPS
+    pub all-steps : (lents : List (List ℕ)) → Lent image lents → (w : Walk) (c : Conf) → Walks w c
+        → pot c ≤ length image
+        → (said (steps w lents) ≡ due image lents (left (admitted B) c)) × (movesOf (steps w lents) ≤ pot c)
+    unfolding Lent steps said movesOf due pick saidWith
+    all-steps [] l w c h k = (refl, omega arith)
+    all-steps (lent ∷ rest) (inl e, l) w c h k =
+        let q : Paid c (step w image) = pays w c h k in
+        let ih = all-steps rest l (step w image .walk) (q .to) (q .walks) (omega (arith, q .cost)) in
+        rw (e, eq-eqb (length image) (length image) refl) (cc (q .head, q .tail, ih .0), omega (arith, q .cost, ih .1))
+    all-steps (lent ∷ rest) (inr e, l) w c h k =
+        let ih = all-steps rest l w c h k in
+        rw (other-length w lent (λ d. e (d ∙ h .same-length)), ne-eqb (length lent) (length image) e)
+        (ap {B = List Said} (λ t. declines 21 ∷ t) (ih .0), omega (arith, ih .1))

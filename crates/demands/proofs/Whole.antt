@@ -1,0 +1,177 @@
+-- From the placing to the row. Proved: what a placing that was taken says of its arguments; that the walk's bound
+-- admits what its argument does; and that what is left of a fresh walk is the row that demand 3 speaks of.
+use mathlib.Core.Path.{_≡_, refl, ap, sym, _∙_}
+use mathlib.Core.List.{List, [], append-nil}
+use mathlib.Core.Bool.{Bool, true, false, not}
+use Prim.Native.Nat.{ℕ, _+_, _*_, _%_, _≤_, _<_}
+use native.Mathlib.Omega.{arith}
+use lib.Dec.{ltb, eqb}
+use lib.ListN.{length, take, getD, replicate}
+use borrow.Author.Tests.{ltb-false, eqb-true, eqb-false, not-true, not-false, le-ltb, eq-eqb, le-leb}
+use Rattle.base.specs.Pick.{pick}
+use Rattle.base.proofs.Choice.{pick-ind}
+use Rattle.key.specs.Part.{padded}
+use Rattle.key.proofs.Bytes.{bytes-of}
+use Rattle.key.proofs.Ikey.{padded-take}
+use Rattle.node.specs.Layout.{statedLength, edition}
+use Rattle.node.specs.Heading.{headingFault, lengthOk}
+use Rattle.cursor.specs.CursorKey.{fromSlice}
+use Rattle.cursor.specs.RangeBound.{contains, boundOf}
+use Rattle.cursor.specs.declared.range_bound.RangeBound.{RangeBound}
+use Rattle.layering.specs.Tree.{treeOf}
+use Rattle.layering.specs.Keys.{livePairs, leavesN, valuesN, layersN}
+use Rattle.layering.specs.Accepted.{Obeys}
+use Rattle.layering.specs.Ascending.{Ascending}
+use Rattle.layering.specs.Sieve.{sieve}
+use Rattle.layering.proofs.Row.{stop, keys, weight}
+use Rattle.layering.proofs.Flat.{weighsN}
+use Rattle.layering.proofs.Size.{moves-fit}
+use Rattle.layering.proofs.Pairs.{row-pairs, pairs-ascend}
+use Rattle.layering.proofs.Sieve.{front, front-sieve, ascending-sieve}
+use Rattle.layering.proofs.Bound.{contains-closed}
+use Rattle.layering.proofs.Walk.{retry, bottom, above, rest, left, climb, pot}
+use Rattle.scan.specs.Machine.{startState, placeFault, freshWalk, place, isEnded, scanOf}
+use Rattle.scan.specs.declared.scan_state.StartMode.{StartMode}
+use Rattle.scan.specs.declared.scan_state.StartMode.the-variants.{Above, From}
+use Rattle.scan.specs.declared.scan_state.Placed.{Placed}
+use Rattle.demands.specs.Demand.{past, rowOf, steps, Lent, said, movesOf, due}
+use Rattle.demands.proofs.Begin.{Begun, begin}
+use Rattle.demands.proofs.Steps.{admitted, Walks, going, all-steps}
+
+-- THE PLACING. It was taken: cursor, kind and bound are in their limits, and the walk is fresh.
+pub record Limits (cursor : List ℕ) (kind : ℕ) (bound : List ℕ) : Type 0 where
+  pub short : length cursor ≤ 8
+  pub kinds : kind ≤ 2
+  pub fits : length bound ≤ 256
+
+module _ (image : List ℕ) (mode : StartMode) (cursor : List ℕ) (kind : ℕ) (bound : List ℕ) where
+  limits : placeFault image cursor kind bound ≡ 0 → Limits cursor kind bound
+  unfolding placeFault
+  limits =
+      let P : ℕ → Type 0 = λ n. n ≡ 0 → Limits cursor kind bound in
+      let h : ℕ = headingFault image in
+      pick-ind P (not (eqb h 0)) (λ t e. absurd (eqb-false h 0 (not-true (eqb h 0) t) e))
+      (λ t.
+      pick-ind P (ltb 8 (length cursor)) (λ u e. absurd (omega arith))
+      (λ u.
+      pick-ind P (ltb 2 kind) (λ v e. absurd (omega arith))
+      (λ v.
+      pick-ind P (ltb 256 (length bound)) (λ w e. absurd (omega arith))
+      (λ w e. record {
+        short = ltb-false 8 (length cursor) u;
+        kinds = ltb-false 2 kind v;
+        fits = ltb-false 256 (length bound) w;
+      }))))
+
+  pub taken : place image mode cursor kind bound .code ≡ 0
+      → (place image mode cursor kind bound .walk ≡ freshWalk image mode cursor kind bound) × Limits cursor kind bound
+  unfolding place
+  taken =
+      let f : ℕ = placeFault image cursor kind bound in
+      pick-ind
+      (λ (p : Placed). p .code ≡ 0 → (p .walk ≡ freshWalk image mode cursor kind bound) × Limits cursor kind bound)
+      (not (eqb f 0))
+      (λ t e. absurd (eqb-false f 0 (not-true (eqb f 0) t) e))
+      (λ t e. (refl, limits (eqb-true f 0 (not-false (eqb f 0) t))))
+
+-- an accepted image has no fault in its heading, so that a placing within the limits is taken
+pub takes : (image : List ℕ) → Obeys image → (mode : StartMode) (cursor : List ℕ) (kind : ℕ) (bound : List ℕ)
+    → length cursor ≤ 8 → kind ≤ 2 → length bound ≤ 256 → place image mode cursor kind bound .code ≡ 0
+unfolding place placeFault headingFault lengthOk pick
+takes image o mode cursor kind bound c k f =
+    rw (
+      le-leb 440 (length image) (o .long),
+      le-leb (length image) 16777216 (o .short),
+      eq-eqb (length image % 8) 0 (o .whole),
+      eq-eqb (statedLength image) (length image) (o .stated),
+      eq-eqb (edition image) 1 (o .first-edition),
+      le-ltb 8 (length cursor) c,
+      le-ltb 2 kind k,
+      le-ltb 256 (length bound) f,
+    )
+
+-- THE BOUND that a placing keeps.
+module _ (kind : ℕ) (bound : List ℕ) where
+  bound-kind : kind ≤ 2 → boundOf kind bound .kind ≤ 2
+  unfolding boundOf
+  bound-kind h = pick-ind (λ (b : RangeBound). b .kind ≤ 2) (eqb kind 0) (λ t. omega arith) (λ t. h)
+
+  bound-length : length bound ≤ 256 → boundOf kind bound .len ≤ 256
+  unfolding boundOf
+  bound-length h = pick-ind (λ (b : RangeBound). b .len ≤ 256) (eqb kind 0) (λ t. omega arith) (λ t. h)
+
+  bound-admits : admitted (boundOf kind bound) ≡ contains kind bound
+  unfolding boundOf contains pick
+  bound-admits = go (eqb kind 0) refl
+    where
+      go : (c : Bool) → eqb kind 0 ≡ c
+          → admitted
+          (pick c (record { kind = 0; len = 0; key = replicate 256 0 })
+          (record { kind = kind; len = length bound; key = padded bound }))
+          ≡ contains kind bound
+      go true e = rw (eqb-true kind 0 e)
+      go false e = ap (contains kind) (padded-take bound)
+
+-- The moves that a walk makes in all, at most.
+abbrev pub limit : List ℕ → ℕ
+limit image = leavesN (treeOf image) + valuesN (treeOf image) + 4 * layersN (treeOf image) + 2
+
+module _ (image : List ℕ) (b : (i : ℕ) → getD image i 0 < 256) (o : Obeys image) (mode : StartMode)
+    (cursor : List ℕ) where
+  -- what lies past the start ascends
+  past-ascends : Ascending (sieve (past mode cursor) (livePairs image))
+  past-ascends = ascending-sieve (past mode cursor) (livePairs image) (pairs-ascend image b o)
+
+  pub row-in-order : (kind : ℕ) (bound : List ℕ) → Ascending (rowOf image mode cursor kind bound)
+  unfolding rowOf
+  row-in-order kind bound =
+      ascending-sieve (contains kind bound) (sieve (past mode cursor) (livePairs image)) past-ascends
+
+  module _ (bc : (i : ℕ) → getD cursor i 0 < 256) (kind : ℕ) (bound : List ℕ) (lim : Limits cursor kind bound) where
+    begun : Begun image mode cursor kind bound (boundOf kind bound .kind)
+        (take (boundOf kind bound .len) (boundOf kind bound .key))
+    begun =
+        begin image b o cursor (lim .short) (bytes-of cursor bc) mode kind bound (boundOf kind bound .kind)
+        (take (boundOf kind bound .len) (boundOf kind bound .key))
+
+    -- a fresh walk stands before its row
+    walks : Walks image (boundOf kind bound) (freshWalk image mode cursor kind bound) (retry [] (begun .to) bottom)
+    unfolding freshWalk scanOf fromSlice isEnded startState
+    walks = record {
+      same-length = refl;
+      same-bound = refl;
+      fit = record { deep = omega arith; offset = refl; fits = omega (arith, lim .short); place = omega arith };
+      stage = going (not-ended mode) (begun .rep);
+    }
+      where
+        not-ended : (mode : StartMode) → isEnded (startState mode) ≡ false
+        not-ended Above = refl
+        not-ended From = refl
+
+    -- what is left of it is the row
+    left-row : left (admitted (boundOf kind bound)) (retry [] (begun .to) bottom) ≡ rowOf image mode cursor kind bound
+    unfolding left rest above rowOf livePairs
+    left-row =
+        ap (front (admitted (boundOf kind bound)))
+        (append-nil (keys [] (begun .to)) ∙ sym (begun .left)
+        ∙ ap (sieve (past mode cursor)) (row-pairs (treeOf image) []))
+        ∙ ap (λ (t : List ℕ → Bool). front t (sieve (past mode cursor) (livePairs image))) (bound-admits kind bound)
+        ∙ front-sieve (contains kind bound) (contains-closed kind bound) (sieve (past mode cursor) (livePairs image))
+        past-ascends
+
+    -- its potential
+    few-moves : pot (retry [] (begun .to) bottom) ≤ limit image
+    unfolding pot climb weight
+    few-moves = omega (arith, begun .light, weighsN (treeOf image) stop (o .paths))
+
+    -- EVERY LIST OF STEPS FROM A FRESH WALK
+    pub fresh-steps : (lents : List (List ℕ)) → Lent image lents
+        → (said (steps (freshWalk image mode cursor kind bound) lents)
+        ≡ due image lents (rowOf image mode cursor kind bound))
+        × (movesOf (steps (freshWalk image mode cursor kind bound) lents) ≤ limit image)
+    fresh-steps lents l =
+        let s =
+        all-steps image (boundOf kind bound) (bound-kind kind bound (lim .kinds))
+        (bound-length kind bound (lim .fits)) lents l (freshWalk image mode cursor kind bound)
+        (retry [] (begun .to) bottom) walks (omega (arith, few-moves, moves-fit image o)) in
+        (s .0 ∙ ap (due image lents) left-row, omega (arith, s .1, few-moves))

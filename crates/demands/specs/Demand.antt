@@ -1,0 +1,72 @@
+-- What demand 3 speaks of: a list of steps, what they say, and the row that they hand out (01: "Demand 3 is one claim about its
+-- whole list, not one for each step").
+use mathlib.Core.Bool.{Bool}
+use mathlib.Core.List.{List, [], _∷_}
+use mathlib.Core.Logic.{_⊎_}
+use mathlib.Core.Path.{_≡_}
+use Prim.Native.Nat.{ℕ, _+_, _*_}
+use lib.Dec.{eqb}
+use lib.ListN.{length, take}
+use Rattle.base.specs.Pick.{pick}
+use Rattle.cursor.specs.RangeBound.{contains}
+use Rattle.layering.specs.Keys.{Pair, livePairs}
+use Rattle.layering.specs.Sieve.{sieve, isAbove, isFrom}
+use Rattle.scan.specs.Machine.{step}
+use Rattle.scan.specs.declared.scan_state.StartMode.{StartMode}
+use Rattle.scan.specs.declared.scan_state.StartMode.the-variants.{Above, From}
+use Rattle.scan.specs.declared.scan_state.Walk.{Walk}
+use Rattle.scan.specs.declared.scan_state.Answer.{Answer}
+use Rattle.scan.specs.declared.scan_state.Answer.the-variants.{Key, Nothing, Declined}
+use Rattle.scan.specs.declared.scan_state.Stepped.{Stepped}
+
+-- THE STEPS: each is given the walk as the one before left it, and is lent some bytes.
+unfoldable pub steps : Walk → List (List ℕ) → List Stepped
+steps w [] = []
+steps w (lent ∷ rest) = step w lent ∷ steps (step w lent .walk) rest
+
+-- Each is lent the image that the walk was placed over, or bytes of another length.
+unfoldable pub Lent : List ℕ → List (List ℕ) → Type 0
+Lent image [] = Unit {0}
+Lent image (lent ∷ rest) = ((lent ≡ image) ⊎ (length lent ≡ length image → ⊥)) × Lent image rest
+
+-- WHAT A STEP SAYS: a key with its value, whose bytes are "the first bytes of the walk's buffer"; none; or a number.
+pub data Said : Type 0 where
+  handsOut : Pair → Said
+  none : Said
+  declines : ℕ → Said
+
+unfoldable pub saidWith : Answer → Stepped → Said
+saidWith (Key len value) s = handsOut (record { key = take len (s .walk .cursor .buf); value = value })
+saidWith Nothing s = none
+saidWith (Declined n) s = declines n
+
+unfoldable pub said : List Stepped → List Said
+said [] = []
+said (s ∷ rest) = saidWith (s .answer) s ∷ said rest
+
+unfoldable pub movesOf : List Stepped → ℕ
+movesOf [] = 0
+movesOf (s ∷ rest) = s .moves + movesOf rest
+
+-- THE ROW: "exactly the live keys past the start that the bound admits, each once, ascending, with values".
+unfoldable pub past : StartMode → List ℕ → List ℕ → Bool
+past Above cursor key = isAbove cursor key
+past From cursor key = isFrom cursor key
+
+unfoldable pub rowOf : List ℕ → StartMode → List ℕ → ℕ → List ℕ → List Pair
+rowOf image mode cursor kind bound = sieve (contains kind bound) (sieve (past mode cursor) (livePairs image))
+
+-- What the steps are to say: "foreign-length steps are declined with 21 and change nothing; what the n others hand out is the
+-- first n of one row .. then none without end".
+unfoldable pub headSaid : List Pair → Said
+headSaid [] = none
+headSaid (x ∷ row) = handsOut x
+
+unfoldable pub tailOf : List Pair → List Pair
+tailOf [] = []
+tailOf (x ∷ row) = row
+
+unfoldable pub due : List ℕ → List (List ℕ) → List Pair → List Said
+due image [] row = []
+due image (lent ∷ rest) row =
+    pick (eqb (length lent) (length image)) (headSaid row ∷ due image rest (tailOf row)) (declines 21 ∷ due image rest row)

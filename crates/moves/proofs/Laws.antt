@@ -1,0 +1,237 @@
+-- What the loop cites: `move-in-range`, a move from numbers in range leaves them in range and the buffer at its length; and the
+-- same of the loop's own steps between moves. Assumes nothing.
+use mathlib.Core.Path.{_≡_, refl, sym, subst}
+use mathlib.Core.Bool.{Bool, true}
+use mathlib.Core.List.{List}
+use Prim.Native.Nat.{ℕ, _+_, _*_, _-_, _≤_, _<_}
+use native.Mathlib.Omega.{arith}
+use borrow.Author.Tests.{leb-true, leb-false, ltb-false, not-false}
+use lib.ListN.{length}
+use lib.Seq.{length-paste}
+use Rattle.base.proofs.Choice.{pick-ind}
+use Rattle.key.specs.Ikey.{digits, ikeyBytes}
+use Rattle.node.specs.Layout.{permutationAt, keylenxAt, suffixAt}
+use Rattle.node.specs.Permuter.{sizeOf}
+use Rattle.node.specs.declared.permuter.Position.{Position}
+use Rattle.node.specs.declared.permuter.Slot.{Slot}
+use Rattle.cursor.specs.CursorKey.{shiftClear, unshift, withIkey, withLength, storeIkey, storeSuffix}
+use Rattle.cursor.specs.declared.cursor_key.CursorPlace.{CursorPlace}
+use Rattle.search.specs.Traversal.{reach}
+use Rattle.search.specs.Helper.{suffixReadable}
+use Rattle.search.specs.declared.helper.Searched.{Searched}
+use Rattle.search.specs.declared.helper.Searched.the-variants.{At, Fault as SearchedFault}
+use Rattle.search.specs.declared.traversal.Reached.{Reached}
+use Rattle.search.specs.declared.traversal.Reached.the-variants.{Leaf as ReachedLeaf, Fault as ReachedFault}
+use Rattle.search.proofs.Laws.{start-within, lower-within}
+use Rattle.moves.specs.Moves.{faulted, standing, startIn, findStart, retryIn, findRetry, handleDown, handleUp, advanceLeaf, Taken, kept, onward, emitKey, takeInline, takeSuffixed, takeLayer, takeSlot, unlessDup, backToRetry, findSlot, findNext, passIn, InBuffer}
+use Rattle.moves.specs.declared.scan_state.ScanState.{ScanState}
+use Rattle.moves.specs.declared.scan_state.ScanState.the-variants.{Start, Retry, FindNext, Down, Up}
+use Rattle.moves.specs.declared.scan_state.ScanCtx.{ScanCtx}
+use Rattle.moves.specs.declared.scan_state.Outcome.{Outcome}
+use Rattle.moves.specs.declared.scan_state.Outcome.the-variants.{Continue, Push, Emit, Exhausted, Fault}
+use Rattle.moves.specs.declared.scan_state.Pass.{Pass}
+use Rattle.moves.specs.declared.forward_ctx.Duplicate.{Duplicate}
+use Rattle.moves.specs.declared.forward_ctx.Duplicate.the-variants.{No, Yes, Fault as DupFault}
+use Rattle.moves.proofs.Answers.{suffix-length}
+
+-- The numbers of a walk whose cursor stands at the place of a layer.
+pub record InRange (layer : ℕ) (c : ScanCtx) : Type 0 where
+  pub place : c .cursor .offset ≡ 8 * layer
+  pub deep : layer ≤ 31
+  pub within : c .cursor .offset + c .cursor .len ≤ 256
+  pub position : c .position .0 ≤ 15
+
+-- At the loop's head, by the state: the cursor stands at the place of the layer that `depth` counts; for Down that layer has
+-- been entered and the cursor has yet to follow.
+abbrev pub Between : ScanState → ScanCtx → Type 0
+Between Start c = InRange (c .depth) c
+Between Retry c = InRange (c .depth) c
+Between FindNext c = InRange (c .depth) c
+Between Down c = (0 < c .depth) × (c .depth ≤ 31) × InRange (c .depth - 1) c
+Between Up c = InRange (c .depth) c
+
+-- Before a move: the same, but for Up the loop has popped, and the cursor has yet to follow.
+abbrev pub Before : ScanState → ScanCtx → Type 0
+Before Start c = InRange (c .depth) c
+Before Retry c = InRange (c .depth) c
+Before FindNext c = InRange (c .depth) c
+Before Down c = (0 < c .depth) × (c .depth ≤ 31) × InRange (c .depth - 1) c
+Before Up c = InRange (c .depth + 1) c
+
+-- After a move, by its outcome. On Push the loop has yet to enter the layer; a fault ends the walk.
+abbrev pub After : Outcome → ScanCtx → Type 0
+After Continue c = Between (c .state) c
+After (Push root) c = (c .state ≡ Down) × (c .depth < 31) × InRange (c .depth) c
+After (Emit value) c = InRange (c .depth) c
+After Exhausted c = InRange (c .depth) c
+After Fault c = Unit {0}
+
+-- THE LOOP'S OWN STEPS between moves: it does nothing, pops, or enters. d is what it makes of c.
+pub not-up : (s : ScanState) (c : ScanCtx) → (s ≡ Up → ⊥) → Between s c → Before s c
+not-up Start c n h = h
+not-up Retry c n h = h
+not-up FindNext c n h = h
+not-up Down c n h = h
+not-up Up c n h = absurd (n refl)
+
+module _ (c d : ScanCtx) (k : d .cursor ≡ c .cursor) (p : d .position ≡ c .position) (h : InRange (c .depth) c) where
+  moved : (n : ℕ) → n ≡ c .depth → InRange n d
+  moved n e = record { place = rw (k, e) (h .place); deep = rw e (h .deep); within = rw k (h .within); position = rw p (h .position) }
+
+  pub popped-in-range : 0 < c .depth → d .depth ≡ c .depth - 1 → Before Up d
+  popped-in-range g e = moved (d .depth + 1) (omega arith)
+
+  pub entered-in-range : c .depth < 31 → d .depth ≡ c .depth + 1 → Between Down d
+  entered-in-range g e = (omega arith, omega arith, moved (d .depth - 1) (omega arith))
+
+-- What a move asks of its caller.
+pub asked : (s : ScanState) (c : ScanCtx) → Before s c → InBuffer s c
+unfolding InBuffer
+asked Start c h = tt
+asked Retry c h = h .within
+asked FindNext c h = (h .position, omega arith, h .within)
+asked Down c h = omega (arith, h .2 .place)
+asked Up c h = (omega arith, omega arith)
+
+-- EACH MOVE.
+abbrev Good : Pass → Type 0
+Good p = After (p .outcome) (p .ctx)
+
+-- with the buffer after it
+abbrev Leaves : Taken → Type 0
+Leaves t = Good (t .pass) × (length (t .buf) ≡ 256)
+
+faults : (c : ScanCtx) → Good (faulted c)
+unfolding faulted
+faults c = tt
+
+-- a cursor k that is in range in the layer of c
+module _ (c : ScanCtx) (k : CursorPlace) (place : k .offset ≡ 8 * c .depth) (deep : c .depth ≤ 31) (within : k .offset + k .len ≤ 256) where
+  stands : (leaf : ℕ) (dup : Bool) (last : ℕ) (found : Searched) → ((p : Position) → found ≡ At p → p .0 ≤ 15) → Good (standing c leaf k dup last found)
+  unfolding standing
+  stands leaf dup last (At p) f = record { place = place; deep = deep; within = within; position = f p refl }
+  stands leaf dup last SearchedFault f = faults c
+
+  module _ (room : c .position .0 < 15) where
+    goes-on : (last : ℕ) → InRange (c .depth) (onward c k last)
+    unfolding onward
+    goes-on last = record { place = place; deep = deep; within = within; position = omega arith }
+
+    emits : (image : List ℕ) (kind : ℕ) (bound buf : List ℕ) (s : Slot) → Good (emitKey image kind bound buf c s k)
+    unfolding emitKey onward
+    emits image kind bound buf s = pick-ind Good _ (λ t. goes-on _) (λ f. pick-ind Good _ (λ t. goes-on _) (λ f. goes-on _))
+
+down : (c : ScanCtx) → Before Down c → Good (handleDown c)
+unfolding handleDown shiftClear
+down c h = record { place = omega (arith, h .2 .place); deep = h .1; within = omega (arith, h .2 .place); position = h .2 .position }
+
+module _ (image : List ℕ) (c : ScanCtx) where
+  start : InRange (c .depth) c → Good (findStart image c)
+  unfolding findStart startIn
+  start h = go (reach image (c .cursor .ikey) (c .root))
+    where
+      go : (r : Reached) → Good (startIn image c r)
+      go (ReachedLeaf leaf) = stands c (c .cursor) (h .place) (h .deep) (h .within) leaf _ _ _ (λ p e. omega (arith, start-within image leaf (c .cursor) p e))
+      go ReachedFault = faults c
+
+  module _ (buf : List ℕ) where
+    retry : InRange (c .depth) c → Good (findRetry image buf c)
+    unfolding findRetry retryIn
+    retry h = go (reach image (c .cursor .ikey) (c .root))
+      where
+        go : (r : Reached) → Good (retryIn image buf c r)
+        go (ReachedLeaf leaf) = stands c (c .cursor) (h .place) (h .deep) (h .within) leaf _ _ _ (λ p e. omega (arith, lower-within image leaf (c .cursor) buf p e))
+        go ReachedFault = faults c
+
+    up : InRange (c .depth + 1) c → Good (handleUp image buf c)
+    unfolding handleUp unshift
+    up h =
+        pick-ind Good _ (λ t. faults c)
+        (λ f. stands c _ (omega arith) (omega arith) (omega arith) _ _ _ _ (λ p e. omega (arith, lower-within image (c .leaf) _ buf p e)))
+
+    advances : InRange (c .depth) c → Good (advanceLeaf image buf c)
+    unfolding advanceLeaf
+    advances h =
+        pick-ind Good _ (λ t. record { place = h .place; deep = h .deep; within = h .within; position = h .position })
+        (λ f. pick-ind Good _ (λ t. faults c)
+        (λ f. stands c (c .cursor) (h .place) (h .deep) (h .within) _ _ _ _ (λ p e. omega (arith, lower-within image _ (c .cursor) buf p e))))
+
+-- the buffer keeps its length
+stored : (buf : List ℕ) (offset ikey : ℕ) → length buf ≡ 256 → offset ≤ 248 → length (storeIkey buf offset ikey) ≡ 256
+unfolding storeIkey ikeyBytes digits
+stored buf offset ikey l h = rw (length-paste buf offset (ikeyBytes ikey) 8 (omega arith) (omega arith)) l
+
+stored-suffix : (buf : List ℕ) (offset : ℕ) (suffix : List ℕ) → length buf ≡ 256 → offset + 8 + length suffix ≤ 256
+    → length (storeSuffix buf offset suffix) ≡ 256
+unfolding storeSuffix
+stored-suffix buf offset suffix l h = rw (length-paste buf (offset + 8) suffix (length suffix) (omega arith) (omega arith)) l
+
+module _ (image : List ℕ) (kind : ℕ) (bound buf : List ℕ) (c : ScanCtx) (h : InRange (c .depth) c) (l : length buf ≡ 256) where
+  keeps-fault : Leaves (kept buf (faulted c))
+  unfolding kept
+  keeps-fault = (faults c, l)
+
+  -- a slot that the walk's position names
+  module _ (s : Slot) (room : c .position .0 < 15) where
+    inline : keylenxAt image (c .leaf) s ≤ 8 → Leaves (takeInline image kind bound buf c s)
+    unfolding takeInline withIkey withLength
+    inline g = (emits c _ (h .place) (h .deep) (omega arith) room _ _ _ _ _, stored buf _ _ l (omega arith))
+
+    suffixed : suffixReadable image (c .leaf) s ≡ true → c .cursor .offset + 8 + suffixAt image (c .leaf) s .len ≤ 256
+        → Leaves (takeSuffixed image kind bound buf c s)
+    unfolding takeSuffixed withIkey withLength
+    suffixed r g = (
+      emits c _ (h .place) (h .deep) (omega arith) room _ _ _ _ _,
+      stored-suffix _ _ _ (stored buf _ _ l (omega arith)) (rw (suffix-length image (c .leaf) s r) g),
+    )
+
+    layer : c .depth < 31 → Leaves (takeLayer image buf c s)
+    unfolding takeLayer withIkey
+    layer g = ((refl, g, record { place = h .place; deep = h .deep; within = h .within; position = h .position }), stored buf _ _ l (omega arith))
+
+    takes : Leaves (takeSlot image kind bound buf c s)
+    unfolding takeSlot
+    takes =
+        pick-ind Leaves _ (λ t. inline (leb-true _ _ t))
+        (λ f. pick-ind Leaves _
+        (λ t. pick-ind Leaves _ (λ t. keeps-fault)
+        (λ r. pick-ind Leaves _ (λ t. keeps-fault) (λ f. suffixed (not-false _ r) (ltb-false _ _ f))))
+        (λ f. pick-ind Leaves _ (λ t. keeps-fault) (λ f. pick-ind Leaves _ (λ t. keeps-fault) (λ f. layer (leb-false _ _ f)))))
+
+    unless-dup : (o : Duplicate) (new : Taken) → Leaves new → Leaves (unlessDup o buf c new)
+    unfolding unlessDup kept onward
+    unless-dup No new g = g
+    unless-dup Yes new g = (goes-on c (c .cursor) (h .place) (h .deep) (h .within) room (c .last), l)
+    unless-dup DupFault new g = keeps-fault
+
+    finds : Leaves (findSlot image kind bound buf c s)
+    unfolding findSlot kept backToRetry
+    finds =
+        pick-ind Leaves _ (λ t. keeps-fault)
+        (λ f. pick-ind Leaves _ (λ t. (record { place = h .place; deep = h .deep; within = h .within; position = h .position }, l))
+        (λ f. unless-dup _ _ takes))
+
+  next : Leaves (findNext image kind bound buf c)
+  unfolding findNext kept
+  next =
+      pick-ind Leaves _ (λ t. keeps-fault)
+      (λ f. pick-ind Leaves _ (λ t. (advances image c buf h, l)) (λ f. finds _ (omega (arith, leb-false (sizeOf (permutationAt image (c .leaf))) (c .position .0) f))))
+
+-- ANY MOVE.
+pub move-in-range : (s : ScanState) (image : List ℕ) (kind : ℕ) (bound buf : List ℕ) (c : ScanCtx) → Before s c → length buf ≡ 256
+    → After (passIn s image kind bound buf c .pass .outcome) (passIn s image kind bound buf c .pass .ctx)
+    × (length (passIn s image kind bound buf c .buf) ≡ 256)
+unfolding passIn kept
+move-in-range Start image kind bound buf c h l = (start image c h, l)
+move-in-range Retry image kind bound buf c h l = (retry image c buf h, l)
+move-in-range FindNext image kind bound buf c h l = next image kind bound buf c h l
+move-in-range Down image kind bound buf c h l = (down c h, l)
+move-in-range Up image kind bound buf c h l = (up image c buf h, l)
+
+-- The same of what a call of `one_move` gave, a pass p with the outcome o, and left in the buffer, b.
+module _ (s : ScanState) (image : List ℕ) (kind : ℕ) (bound buf : List ℕ) (c : ScanCtx) (h : Before s c) (l : length buf ≡ 256) where
+  pub pass-in-range : (p : Pass) → p ≡ passIn s image kind bound buf c .pass → (o : Outcome) → p .outcome ≡ o → After o (p .ctx)
+  pass-in-range p e o f = subst (λ (x : Outcome). After x (p .ctx)) f (subst (λ (q : Pass). Good q) (sym e) (move-in-range s image kind bound buf c h l .0))
+
+  pub buffer-in-range : (b : List ℕ) → b ≡ passIn s image kind bound buf c .buf → length b ≡ 256
+  buffer-in-range b e = rw e (move-in-range s image kind bound buf c h l .1)

@@ -1,0 +1,6 @@
+// The moves of the loop over a resting image (the Rust's forward_ctx.rs, but for the loop itself).
+//
+// Interface: `forward_ctx::one_move` and the types. A move asks that the key it works on lies within the buffer, which the step's
+// test of a walk's numbers (21) gives; whatever the image says is an answer.
+pub mod forward_ctx;
+pub mod scan_state;

@@ -1,0 +1,42 @@
+// What the loop has between two moves (the Rust's scan_state.rs).
+use cursor::cursor_key::CursorPlace;
+use node::permuter::Position;
+
+// What the loop does next: the Rust's states without Emit, and Start.
+pub enum ScanState {
+    Start,
+    Retry,
+    FindNext,
+    Down,
+    Up,
+}
+
+// What goes from move to move by value: the Rust's ForwardScanCtx without its buffer and its layer stack, which the loop
+// holds. `depth` is how many of the stack's entries are in use; `dup` is the Rust's needs_duplicate_check, `last` its
+// last_ikey.
+pub struct ScanCtx {
+    pub root: u64,
+    pub leaf: u64,
+    pub position: Position,
+    pub cursor: CursorPlace,
+    pub depth: usize,
+    pub state: ScanState,
+    pub dup: bool,
+    pub last: u64,
+}
+
+// What a move comes to: the loop goes on; a layer is entered, whose root is given; a key is out, with its value; the walk
+// is at its end; the image cannot be read (22).
+pub enum Outcome {
+    Continue,
+    Push(u64),
+    Emit(u64),
+    Exhausted,
+    Fault,
+}
+
+// One move.
+pub struct Pass {
+    pub outcome: Outcome,
+    pub ctx: ScanCtx,
+}

@@ -1,0 +1,31 @@
+-- The tests stand in the order of the definition, and each order has its arm.
+use mathlib.Core.Path.{sym, _∙_}
+use borrow.Author.Needs.{needs}
+use borrow.Author.Tests.{not-false}
+use Rattle.base.proofs.Choice.{choices}
+use Rattle.search.specs.Helper.{storedIs, storedOrder}
+use Rattle.search.proofs.Answers.{differs, agrees, stored-as}
+use Rattle.search.proofs.helper.compare_stored.Statement.{statement}
+use Rattle.search.proofs.helper.compare_stored.Tie as tie
+
+stored-suffix-requires : tie.Need-stored-suffix-requires
+stored-suffix-requires c κs =
+    (search needs, sym (c .before .before .is-suffix-readable .ensures) ∙ not-false _ (c .before .if2 .left))
+
+pub compare-stored-spec : {M : Type 1} → statement M
+unfolding storedOrder storedIs
+compare-stored-spec =
+    tie.close
+    (tie.spec
+    (λ c κs. search needs)
+    (λ c. search differs)
+    (λ c κs. search needs)
+    (λ c. search (agrees, choices))
+    stored-suffix-requires
+    (λ c κs. search needs)
+    (λ c. search needs)
+    (λ c. search needs)
+    (λ c. search needs)
+    (λ c. search (agrees, choices, stored-as))
+    (λ c. search (agrees, choices, stored-as))
+    (λ c. search (agrees, choices, stored-as)))

@@ -1,0 +1,4 @@
+pub mod Paste
+pub mod Decimal
+pub mod Hex
+pub mod Lines

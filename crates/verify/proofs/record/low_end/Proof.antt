@@ -1,0 +1,18 @@
+-- By cases on the child's number, as the definition.
+use borrow.Author.Needs.{needs}
+use mathlib.Core.Path.{_∙_}
+use Rattle.base.proofs.Tests.{tests}
+use Rattle.verify.specs.Check.{lowEnd}
+use Rattle.verify.proofs.Ends.{low-inner}
+use Rattle.verify.proofs.record.low_end.Statement.{statement}
+use Rattle.verify.proofs.record.low_end.Tie as tie
+
+pub low-end-spec : {M : Type 1} → statement M
+unfolding lowEnd
+low-end-spec =
+    tie.close
+    (tie.spec
+    (λ c. search tests)
+    (λ c. search needs)
+    (λ c κs. search needs)
+    (λ c. c .separator .ensures ∙ low-inner _ _ _ _ (c .before .if1 .left)))

@@ -1,0 +1,157 @@
+// How far the check has come: from one part of the tree to the next.
+use crate::Checked;
+use crate::Counts;
+use crate::Progress;
+use node::leaf;
+use node::trailer;
+ghost use mathlib.Core.Path.{_≡_};
+ghost use Prim.Native.Nat.{_+_, _≤_};
+ghost use lib.ListN.{length};
+ghost use Rattle.node.specs.Layout.{InLeaf};
+ghost use Rattle.verify.specs.Check.{stop, andThen, passSuffix, enterLayer, leaveLayer, finish, begin};
+ghost use Rattle.verify.specs.Cases.{leafEnd, internodeEnd, layerEnd, Bounded};
+
+// Before the first record: nothing is counted, and records begin at byte 8.
+pub fn begin() -> Progress
+    ensures { λ r. ⌜ r ≡ begin ⌝ }
+{
+    Progress {
+        fault: 0,
+        place: 8,
+        chained: false,
+        next: 0,
+        counts: Counts {
+            leaves: 0,
+            value_slots: 0,
+            sub_layers: 0,
+        },
+    }
+}
+
+// At a fault all else is 0.
+pub fn stopped(n: u8) -> Progress
+    ensures { λ r. ⌜ r ≡ stop n ⌝ }
+{
+    Progress {
+        fault: n,
+        place: 0,
+        chained: false,
+        next: 0,
+        counts: Counts {
+            leaves: 0,
+            value_slots: 0,
+            sub_layers: 0,
+        },
+    }
+}
+
+// Past a value slot, whose suffix takes `bytes`.
+pub fn pass_suffix(p: Progress, bytes: usize) -> Progress
+    requires { ⌜ Bounded 480 p ⌝ }
+    requires { ⌜ bytes ≤ 4294967304 ⌝ }
+    ensures { λ r. ⌜ r ≡ passSuffix bytes p ⌝ }
+{
+    let mut q = p;
+    let values = p.counts.value_slots + 1;
+    q.place = p.place + bytes;
+    q.counts.value_slots = values;
+    q
+}
+
+// Behind a leaf's slots: past the leaf, which must start at the place reached.
+pub fn end_leaf(image: &[u8], at: usize, q: Progress) -> Progress
+    requires { ⌜ InLeaf (now image) at ⌝ }
+    requires { ⌜ (q .fault ≡ 0 → Bounded 480 q) ⌝ }
+    ensures { λ r. ⌜ r ≡ andThen q (leafEnd (now (image .entry)) at) ⌝ }
+{
+    if q.fault != 0 {
+        return q;
+    }
+    if at != q.place {
+        return stopped(3);
+    }
+    let mut r = q;
+    let leaves = q.counts.leaves + 1;
+    r.place = q.place + leaf::LEAF_SIZE;
+    r.chained = true;
+    r.next = leaf::next(image, at);
+    r.counts.leaves = leaves;
+    r
+}
+
+// Behind an internode's children, the same.
+pub fn end_internode(at: usize, q: Progress) -> Progress
+    requires { ⌜ (q .fault ≡ 0 → Bounded 480 q) ⌝ }
+    ensures { λ r. ⌜ r ≡ andThen q (internodeEnd at) ⌝ }
+{
+    if q.fault != 0 {
+        return q;
+    }
+    if at != q.place {
+        return stopped(3);
+    }
+    let mut r = q;
+    r.place = q.place + 256;
+    r
+}
+
+// Behind a layer's subtree: its last leaf must name no next one.
+pub fn end_layer(q: Progress) -> Progress
+    ensures { λ r. ⌜ r ≡ andThen q layerEnd ⌝ }
+{
+    if q.fault != 0 {
+        return q;
+    }
+    if q.next != 0 {
+        return stopped(9);
+    }
+    q
+}
+
+// Into a sub-layer, which has a chain of leaves of its own.
+pub fn enter_layer(p: Progress) -> Progress
+    requires { ⌜ Bounded 480 p ⌝ }
+    ensures { λ r. ⌜ r ≡ enterLayer p ⌝ }
+{
+    let mut q = p;
+    let layers = p.counts.sub_layers + 1;
+    q.chained = false;
+    q.next = 0;
+    q.counts.sub_layers = layers;
+    q
+}
+
+// Behind a sub-layer the chain of the layer above goes on.
+pub fn leave_layer(above: Progress, q: Progress) -> Progress
+    ensures { λ r. ⌜ r ≡ andThen q (leaveLayer above) ⌝ }
+{
+    if q.fault != 0 {
+        return q;
+    }
+    let mut r = q;
+    r.chained = above.chained;
+    r.next = above.next;
+    r
+}
+
+// The answer behind the root layer.
+pub fn finish(image: &[u8], p: Progress) -> Checked
+    requires { ⌜ 32 ≤ length (now image) ⌝ }
+    requires { ⌜ (p .fault ≡ 0 → Bounded 480 p) ⌝ }
+    ensures { λ r. ⌜ r ≡ finish (now (image .entry)) p ⌝ }
+{
+    if p.fault != 0 {
+        return Checked::Declined(p.fault);
+    }
+    if p.place + 32 != image.len() {
+        return Checked::Declined(3);
+    }
+    if trailer::key_count(image) != (p.counts.value_slots as u64) {
+        return Checked::Declined(10);
+    }
+    Checked::Accepted {
+        leaves: p.counts.leaves,
+        value_slots: p.counts.value_slots,
+        sub_layers: p.counts.sub_layers,
+    }
+}
