@@ -17,12 +17,13 @@ use Rattle.scan.specs.Machine.{place, step}
 use Rattle.scan.specs.declared.scan_state.StartMode.{StartMode}
 use Rattle.scan.specs.declared.scan_state.Walk.{Walk}
 use Rattle.scan.specs.declared.scan_state.Answer.the-variants.{Declined}
-use Rattle.demands.specs.Demand.{steps, Lent, said, movesOf, past, rowOf, due}
+use Rattle.demands.specs.Demand.{Call, steps, Lent, said, movesOf, past, rowOf, due}
 use Rattle.demands.proofs.Steps.{other-length}
 use Rattle.demands.proofs.Whole.{taken, takes, row-in-order, fresh-steps}
 
 -- Over an image that the check accepts, with c its three numbers; a placing that is taken, in either mode; and any list of steps,
--- each given the walk as the one before left it (`steps`) and lent that image or bytes of another length (`Lent`):
+-- by value or with the walk lent, each given
+-- the walk as the one before left it (`steps`) and lent that image or bytes of another length (`Lent`):
 --
 -- What the steps say is what is due. One lent the image hands out the next of the row, or none once the row is out, and so is never
 -- declined, not with 22 or 23 either; one lent another length is declined with 21. The row is the image's live pairs, written down by
@@ -30,14 +31,14 @@ use Rattle.demands.proofs.Whole.{taken, takes, row-in-order, fresh-step
 -- slots, four for each sub-layer, and two.
 pub demand-3 : (image : List ℕ) → ((i : ℕ) → getD image i 0 < 256) → (c : Counts) → check image ≡ accepted c
     → (mode : StartMode) (cursor : List ℕ) → ((i : ℕ) → getD cursor i 0 < 256) → (kind : ℕ) (bound : List ℕ)
-    → place image mode cursor kind bound .code ≡ 0 → (lents : List (List ℕ)) → Lent image lents
-    → (said (steps (place image mode cursor kind bound .walk) lents) ≡ due image lents (rowOf image mode cursor kind bound))
-    × (movesOf (steps (place image mode cursor kind bound .walk) lents) ≤ c .leaves + c .«value_slots» + 4 * c .«sub_layers» + 2)
+    → place image mode cursor kind bound .code ≡ 0 → (calls : List Call) → Lent image calls
+    → (said (steps (place image mode cursor kind bound .walk) calls) ≡ due image calls (rowOf image mode cursor kind bound))
+    × (movesOf (steps (place image mode cursor kind bound .walk) calls) ≤ c .leaves + c .«value_slots» + 4 * c .«sub_layers» + 2)
 unfolding treeCounts
-demand-3 image b c a mode cursor bc kind bound e lents l =
+demand-3 image b c a mode cursor bc kind bound e calls l =
     let o = accepted-obeys image c a in
     let t = taken image mode cursor kind bound e in
-    rw (t .0, o .1) (fresh-steps image b (o .0) mode cursor bc kind bound (t .1) lents l)
+    rw (t .0, o .1) (fresh-steps image b (o .0) mode cursor bc kind bound (t .1) calls l)
 
 -- The placings over an accepted image that are taken: cursor, kind and bound in their limits.
 pub is-taken : (image : List ℕ) (c : Counts) → check image ≡ accepted c → (mode : StartMode) (cursor : List ℕ) (kind : ℕ) (bound : List ℕ)

@@ -20,7 +20,8 @@ use Rattle.scan.specs.declared.scan_state.WalkState.the-variants.{Ended}
 use Rattle.scan.specs.declared.scan_state.Walk.{Walk}
 use Rattle.scan.specs.declared.scan_state.Answer.the-variants.{Nothing, Declined}
 use Rattle.scan.specs.declared.scan_state.Stepped.{Stepped}
-use Rattle.demands.specs.Demand.{steps, Lent, Said, handsOut, declines, saidWith, said, movesOf, headSaid, tailOf, due}
+use Rattle.lent.proofs.Same.{step-as}
+use Rattle.demands.specs.Demand.{Call, steps, Lent, Said, handsOut, declines, saidWith, said, movesOf, headSaid, tailOf, due}
 use Rattle.demands.proofs.Relation.{Fit, resumed, Rep}
 use Rattle.demands.proofs.Run.{Came, out, end, comes}
 
@@ -130,16 +131,21 @@ module _ (image : List ℕ) (B : RangeBound) where
     pays w c h k = rw (walk-ok w c h) (pays-in w c (h .same-length) (h .same-bound) (h .fit) k (h .stage))
 
     -- EVERY LIST OF STEPS
-    pub all-steps : (lents : List (List ℕ)) → Lent image lents → (w : Walk) (c : Conf) → Walks w c
+    pub all-steps : (calls : List Call) → Lent image calls → (w : Walk) (c : Conf) → Walks w c
         → pot c ≤ length image
-        → (said (steps w lents) ≡ due image lents (left (admitted B) c)) × (movesOf (steps w lents) ≤ pot c)
+        → (said (steps w calls) ≡ due image calls (left (admitted B) c)) × (movesOf (steps w calls) ≤ pot c)
     unfolding Lent steps said movesOf due pick saidWith
     all-steps [] l w c h k = (refl, omega arith)
-    all-steps (lent ∷ rest) (inl e, l) w c h k =
+    all-steps (call ∷ rest) (inl e, l) w c h k =
         let q : Paid c (step w image) = pays w c h k in
         let ih = all-steps rest l (step w image .walk) (q .to) (q .walks) (omega (arith, q .cost)) in
-        rw (e, eq-eqb (length image) (length image) refl) (cc (q .head, q .tail, ih .0), omega (arith, q .cost, ih .1))
-    all-steps (lent ∷ rest) (inr e, l) w c h k =
+        rw (step-as (call .form) w (call .bytes), e, eq-eqb (length image) (length image) refl)
+        (cc (q .head, q .tail, ih .0), omega (arith, q .cost, ih .1))
+    all-steps (call ∷ rest) (inr e, l) w c h k =
         let ih = all-steps rest l w c h k in
-        rw (other-length w lent (λ d. e (d ∙ h .same-length)), ne-eqb (length lent) (length image) e)
+        rw (
+          step-as (call .form) w (call .bytes),
+          other-length w (call .bytes) (λ d. e (d ∙ h .same-length)),
+          ne-eqb (length (call .bytes)) (length image) e,
+        )
         (ap {B = List Said} (λ t. declines 21 ∷ t) (ih .0), omega (arith, ih .1))

@@ -34,7 +34,7 @@ use Rattle.scan.specs.Machine.{startState, placeFault, freshWalk, place, isEnde
 use Rattle.scan.specs.declared.scan_state.StartMode.{StartMode}
 use Rattle.scan.specs.declared.scan_state.StartMode.the-variants.{Above, From}
 use Rattle.scan.specs.declared.scan_state.Placed.{Placed}
-use Rattle.demands.specs.Demand.{past, rowOf, steps, Lent, said, movesOf, due}
+use Rattle.demands.specs.Demand.{past, rowOf, Call, steps, Lent, said, movesOf, due}
 use Rattle.demands.proofs.Begin.{Begun, begin}
 use Rattle.demands.proofs.Steps.{admitted, Walks, going, all-steps}
 
@@ -165,13 +165,13 @@ module _ (image : List ℕ) (b : (i : ℕ) → getD image i 0 < 256) (o : Obeys 
     few-moves = omega (arith, begun .light, weighsN (treeOf image) stop (o .paths))
 
     -- EVERY LIST OF STEPS FROM A FRESH WALK
-    pub fresh-steps : (lents : List (List ℕ)) → Lent image lents
-        → (said (steps (freshWalk image mode cursor kind bound) lents)
-        ≡ due image lents (rowOf image mode cursor kind bound))
-        × (movesOf (steps (freshWalk image mode cursor kind bound) lents) ≤ limit image)
-    fresh-steps lents l =
+    pub fresh-steps : (calls : List Call) → Lent image calls
+        → (said (steps (freshWalk image mode cursor kind bound) calls)
+        ≡ due image calls (rowOf image mode cursor kind bound))
+        × (movesOf (steps (freshWalk image mode cursor kind bound) calls) ≤ limit image)
+    fresh-steps calls l =
         let s =
         all-steps image (boundOf kind bound) (bound-kind kind bound (lim .kinds))
-        (bound-length kind bound (lim .fits)) lents l (freshWalk image mode cursor kind bound)
+        (bound-length kind bound (lim .fits)) calls l (freshWalk image mode cursor kind bound)
         (retry [] (begun .to) bottom) walks (omega (arith, few-moves, moves-fit image o)) in
-        (s .0 ∙ ap (due image lents) left-row, omega (arith, s .1, few-moves))
+        (s .0 ∙ ap (due image calls) left-row, omega (arith, s .1, few-moves))

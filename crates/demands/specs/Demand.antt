@@ -11,7 +11,7 @@ use Rattle.base.specs.Pick.{pick}
 use Rattle.cursor.specs.RangeBound.{contains}
 use Rattle.layering.specs.Keys.{Pair, livePairs}
 use Rattle.layering.specs.Sieve.{sieve, isAbove, isFrom}
-use Rattle.scan.specs.Machine.{step}
+use Rattle.lent.specs.Form.{Form, stepAs}
 use Rattle.scan.specs.declared.scan_state.StartMode.{StartMode}
 use Rattle.scan.specs.declared.scan_state.StartMode.the-variants.{Above, From}
 use Rattle.scan.specs.declared.scan_state.Walk.{Walk}
@@ -19,15 +19,20 @@ use Rattle.scan.specs.declared.scan_state.Answer.{Answer}
 use Rattle.scan.specs.declared.scan_state.Answer.the-variants.{Key, Nothing, Declined}
 use Rattle.scan.specs.declared.scan_state.Stepped.{Stepped}
 
--- THE STEPS: each is given the walk as the one before left it, and is lent some bytes.
-unfoldable pub steps : Walk → List (List ℕ) → List Stepped
+-- A CALL of the step: its form, by value or with the walk lent, and the bytes that it is lent for the image.
+pub record Call : Type 0 where
+  pub form : Form
+  pub bytes : List ℕ
+
+-- THE STEPS: each is given the walk as the one before left it ("once the lent form is there, the list takes its steps too").
+unfoldable pub steps : Walk → List Call → List Stepped
 steps w [] = []
-steps w (lent ∷ rest) = step w lent ∷ steps (step w lent .walk) rest
+steps w (c ∷ rest) = stepAs (c .form) w (c .bytes) ∷ steps (stepAs (c .form) w (c .bytes) .walk) rest
 
 -- Each is lent the image that the walk was placed over, or bytes of another length.
-unfoldable pub Lent : List ℕ → List (List ℕ) → Type 0
+unfoldable pub Lent : List ℕ → List Call → Type 0
 Lent image [] = Unit {0}
-Lent image (lent ∷ rest) = ((lent ≡ image) ⊎ (length lent ≡ length image → ⊥)) × Lent image rest
+Lent image (c ∷ rest) = ((c .bytes ≡ image) ⊎ (length (c .bytes) ≡ length image → ⊥)) × Lent image rest
 
 -- WHAT A STEP SAYS: a key with its value, whose bytes are "the first bytes of the walk's buffer"; none; or a number.
 pub data Said : Type 0 where
@@ -66,7 +71,7 @@ unfoldable pub tailOf : List Pair → List Pair
 tailOf [] = []
 tailOf (x ∷ row) = row
 
-unfoldable pub due : List ℕ → List (List ℕ) → List Pair → List Said
+unfoldable pub due : List ℕ → List Call → List Pair → List Said
 due image [] row = []
-due image (lent ∷ rest) row =
-    pick (eqb (length lent) (length image)) (headSaid row ∷ due image rest (tailOf row)) (declines 21 ∷ due image rest row)
+due image (c ∷ rest) row =
+    pick (eqb (length (c .bytes)) (length image)) (headSaid row ∷ due image rest (tailOf row)) (declines 21 ∷ due image rest row)

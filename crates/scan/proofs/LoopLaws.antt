@@ -1,6 +1,6 @@
 -- One turn of the loop: what it holds before it, what it has made of that when it comes to its pass, and what each outcome of
 -- the pass comes to. The moves that are left always come to what the whole step comes to. Assumes nothing.
-use mathlib.Core.Path.{_≡_, refl, sym, _∙_, ap, subst}
+use mathlib.Core.Path.{_≡_, refl, _∙_, ap, subst}
 use mathlib.Core.Bool.{true, false}
 use mathlib.Core.List.{List}
 use Prim.Native.Nat.{ℕ, _+_, _-_, _≤_, _<_}
@@ -17,13 +17,12 @@ use Rattle.moves.specs.declared.scan_state.Outcome.{Outcome}
 use Rattle.moves.specs.declared.scan_state.Outcome.the-variants.{Continue, Push, Emit, Exhausted, Fault}
 use Rattle.moves.specs.declared.scan_state.Pass.{Pass}
 use Rattle.moves.proofs.Laws.{InRange, Between, Before, After, not-up, popped-in-range, entered-in-range, pass-in-range, buffer-in-range}
-use Rattle.scan.specs.Machine.{Scan, Moved, pushing, entered, stacked, emptyContext, popped, unstacked, move, Ran, after, run, walkOk, scanState, lastIkey, scanOf, walkOf, stepped, finished}
+use Rattle.scan.specs.Machine.{Scan, Moved, pushing, entered, stacked, emptyContext, popped, unstacked, move, Ran, after, run, walkOk, scanOf, walkOf, stepped, finished}
 use Rattle.scan.specs.Loop.{isUp, poppedTo, walkWith, advance}
 use Rattle.scan.specs.declared.scan_state.LayerContext.{LayerContext}
 use Rattle.scan.specs.declared.scan_state.Walk.{Walk}
 use Rattle.scan.specs.declared.scan_state.WalkState.the-variants as walk
 use Rattle.scan.specs.declared.scan_state.Answer.the-variants.{Key, Nothing, Declined}
-use Rattle.scan.specs.declared.scan_state.Stepped.{Stepped}
 use Rattle.scan.proofs.WalkLaws.{walk-fits, starts-between}
 use Rattle.scan.proofs.MoveLaws.{passed, up-state, other-state, pass-is, up-is, end-is}
 
@@ -37,23 +36,6 @@ between-deep Retry c h = h .deep
 between-deep FindNext c h = h .deep
 between-deep Down c h = h .1
 between-deep Up c h = h .deep
-
--- a walk's scan, with a state and a last ikey
-abbrev pub withStart : Walk → ScanState → ℕ → Scan
-withStart w state last = record {
-  ctx = record {
-    root = w .root;
-    leaf = w .leaf;
-    position = w .position;
-    cursor = record { offset = w .cursor .offset; len = w .cursor .len; ikey = w .cursor .ikey };
-    depth = w .depth;
-    state = state;
-    dup = false;
-    last = last;
-  };
-  buf = w .cursor .buf;
-  stack = w .stack;
-}
 
 module _ (w : Walk) (image : List ℕ) (kind : ℕ) (bound : List ℕ) where
   -- What the loop holds after some moves.
@@ -79,12 +61,12 @@ module _ (w : Walk) (image : List ℕ) (kind : ℕ) (bound : List ℕ) where
         after (m .outcome) (moves + 1) (m .scan) (run image kind bound (length image - (moves + 1)) (moves + 1) (m .scan)))
         ≡ allMoves w image
 
-  -- before the first move: what the code has put together is the walk's scan
+  -- before the first move
   pub begins : walkOk w (length image) ≡ true → length (w .cursor .buf) ≡ 256 → kind ≡ w .bound .kind → bound ≡ part (w .bound .key) 0 (w .bound .len)
-      → (state : ScanState) → state ≡ scanState (w .state) → (last : ℕ) → last ≡ lastIkey (w .state) (w .cursor .ikey)
-      → Held (withStart w state last) 0
+      → Held (scanOf w) 0
   unfolding part scanOf
-  begins ok l k b state e last f = rw (e, f) (record { within = omega arith; same = rw (k, b, sub-zero); fits = starts-between w (length image) ok; long = l; deep = walk-fits w (length image) ok .depth-fits })
+  begins ok l k b =
+      record { within = omega arith; same = rw (k, b, sub-zero); fits = starts-between w (length image) ok; long = l; deep = walk-fits w (length image) ok .depth-fits }
 
   module _ (s : Scan) (moves : ℕ) (h : Held s moves) where
     -- no move is left

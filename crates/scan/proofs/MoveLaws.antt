@@ -3,8 +3,7 @@
 use mathlib.Core.Path.{_≡_, refl, sym, _∙_, ap}
 use mathlib.Core.Bool.{Bool, true, false, true≢false, false≢true}
 use mathlib.Core.List.{List}
-use Prim.Native.Nat.{ℕ, _-_}
-use lib.ListN.{getD}
+use Prim.Native.Nat.{ℕ}
 use borrow.Author.Tests.{eq-eqb, ne-eqb}
 use Rattle.base.specs.Pick.{pick}
 use Rattle.base.proofs.Choice.{pick-ind}
@@ -20,8 +19,8 @@ use Rattle.moves.specs.declared.scan_state.ScanCtx.{ScanCtx}
 use Rattle.moves.specs.declared.scan_state.Outcome.{Outcome}
 use Rattle.moves.specs.declared.scan_state.Outcome.the-variants.{Exhausted}
 use Rattle.moves.specs.declared.scan_state.Pass.{Pass}
-use Rattle.scan.specs.Machine.{Scan, Moved, moved, pushing, emptyContext, popped, unstacked, moveIn, move}
-use Rattle.scan.specs.Loop.{isUp, poppedTo}
+use Rattle.scan.specs.Machine.{Scan, Moved, moved, pushing, popped, unstacked, moveIn, move}
+use Rattle.scan.specs.Loop.{isUp}
 use Rattle.scan.specs.declared.scan_state.LayerContext.{LayerContext}
 
 -- A pass over a buffer, with the layer that it found entered.

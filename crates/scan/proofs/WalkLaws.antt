@@ -1,4 +1,5 @@
--- The test of a walk's numbers: what the code's fourth test says, and what a walk that passes has. Assumes nothing.
+-- The test of a walk's numbers: what the code's fourth test says, what a walk that passes has, and what a step comes to by that test
+-- and by the walk's state. Assumes nothing.
 use mathlib.Core.Path.{_≡_}
 use mathlib.Core.Bool.{true, false, and-eq-true-iff}
 use mathlib.Core.List.{List}
@@ -14,7 +15,6 @@ use Rattle.scan.specs.Machine.{walkOk, scanState, scanOf, isEnded, step}
 use Rattle.scan.specs.Loop.{advance}
 use Rattle.scan.specs.declared.scan_state.Walk.{Walk}
 use Rattle.scan.specs.declared.scan_state.Answer.the-variants.{Nothing, Declined}
-use Rattle.scan.specs.declared.scan_state.Stepped.{Stepped}
 use Rattle.scan.specs.declared.scan_state.WalkState.{WalkState}
 use Rattle.scan.specs.declared.scan_state.WalkState.the-variants.{Start, Retry, FindNext, Ended}
 

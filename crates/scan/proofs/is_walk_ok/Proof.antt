@@ -1,6 +1,5 @@
 -- The tests stand in the order of the definition; where the fourth stands, the offset is 248 at most.
 use borrow.Author.Needs.{needs}
-use borrow.Author.Tests.{eq-eqb, le-leb, lt-leb}
 use Rattle.base.proofs.Tests.{tests}
 use Rattle.scan.specs.Machine.{walkOk}
 use Rattle.scan.proofs.WalkLaws.{end-past, end-within}

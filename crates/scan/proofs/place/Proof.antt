@@ -1,5 +1,5 @@
 -- A placing that is not declined has an image with a trailer, and a cursor and a bound that fit their buffers.
-use mathlib.Core.Path.{_≡_, sym, _∙_}
+use mathlib.Core.Path.{sym, _∙_}
 use native.Mathlib.Omega.{arith}
 use borrow.Author.Needs.{needs}
 use Rattle.base.specs.Pick.{pick}

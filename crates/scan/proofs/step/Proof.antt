@@ -1,5 +1,5 @@
 -- The test of the walk's numbers stands first, then the walk's state; a walk that passes and is not ended makes its moves.
-use mathlib.Core.Path.{_≡_, ap, _∙_}
+use mathlib.Core.Path.{ap, _∙_}
 use borrow.Author.Needs.{needs}
 use Rattle.moves.proofs.Answers.{found-so, found-not}
 use Rattle.scan.specs.Machine.{isEnded}

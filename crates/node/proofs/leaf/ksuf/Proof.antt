@@ -1,16 +1,15 @@
--- The two halves of the suffix word are the suffix by its definition.
-use borrow.Author.Needs.{needs}
+-- The suffix word is read by a reader made of the image and the place.
+use Rattle.node.proofs.Result.{suffix}
 use Rattle.node.specs.Layout.{suffixAt}
-use Rattle.node.proofs.leaf.ksuf.Statement.{statement}
-use Rattle.node.proofs.leaf.ksuf.Tie as tie
+use Rattle.node.proofs.Slotted.{makes}
+use Rattle.node.proofs.leaf.LeafReader.ksuf.Symbol as callee
+use Rattle.node.proofs.leaf.LeafReader.ksuf.Met as callee-thm
+use Rattle.node.proofs.leaf.ksuf.Key as self
+use Rattle.node.proofs.leaf.ksuf.Statement as stated
+use Rattle.node.proofs.leaf.ksuf.Code as code
 
-pub ksuf-spec : {M : Type 1} → statement M
-unfolding suffixAt
-ksuf-spec =
-    tie.close
-    (tie.spec
-    (λ c. search needs)
-    (λ c. search needs)
-    (λ c. search needs)
-    (λ c κs. search needs)
-    (λ c. search (needs, c .u64-at .ensures)))
+pub ksuf-spec : {M : Type 1} → stated.statement M
+unfolding code.routine
+ksuf-spec {M} 𝓤 H 𝓜 𝓖 𝓡 =
+    makes suffix suffixAt callee.name self.name code.env callee.routine code.calls-node·leaf·LeafReader·ksuf
+    M 𝓤 H 𝓜 𝓖 𝓡 (code.unfolded 𝓤 H 𝓜 𝓡) (callee-thm.met 𝓤 H 𝓜 𝓖 𝓡)

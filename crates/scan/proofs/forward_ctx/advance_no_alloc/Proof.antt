@@ -9,7 +9,7 @@ use borrow.Author.Needs.{needs}
 use lib.ListN.{length}
 use Rattle.moves.specs.declared.scan_state.Outcome.the-variants.{Push, Emit}
 use Rattle.moves.proofs.Laws.{asked}
-use Rattle.scan.specs.Machine.{Scan, emptyContext, stacked}
+use Rattle.scan.specs.Machine.{Scan, emptyContext, stacked, scanOf}
 use Rattle.scan.specs.declared.scan_state.Walk.{Walk}
 use Rattle.scan.proofs.WalkLaws.{walk-fits}
 use Rattle.scan.proofs.LoopLaws.{Held, Ready, Made, begins, none, ends, stays, pops, made, goes-on, enters, emits, exhausts, faults}
@@ -72,7 +72,8 @@ part-of-requires c κs =
     let f = walk-fits _ _ (c .before .before .before .before .pre) in omega arith
 
 loop-holds : tie.Need-loop-holds Inv-loop μ-loop
-loop-holds c = begins _ _ _ _ (c .before .before .before .before .before .before .before .before .before .before .before .pre) (search needs) refl (c .before .before .before .before .before .before .part-of .ensures) _ (c .before .scan-state .ensures) _ (c .last-ikey .ensures)
+unfolding scanOf
+loop-holds c = rw (c .before .scan-state .ensures, c .last-ikey .ensures) (begins _ _ _ _ (c .before .before .before .before .before .before .before .before .before .before .before .pre) (search needs) refl (c .before .before .before .before .before .before .part-of .ensures))
 
 returns : tie.Need-returns Inv-loop μ-loop
 returns c = ends _ _ _ _ _ _ (c .before .before .before .before .before .loop .inv) (c .before .before .before .before .loop-test .taken) (sym (c .before .before .before .is-up .ensures) ∙ c .before .before .if1 .taken) (c .before .if2 .taken) _ (c .walk-of .ensures)

@@ -1,0 +1,2 @@
+-- The lemma files of this crate.
+pub mod Same

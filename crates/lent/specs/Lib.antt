@@ -1,0 +1,2 @@
+-- The definition files of this crate.
+pub mod Form
