@@ -1,5 +1,5 @@
 -- The proof of demand 3, from searches in a leaf up to the statement, in the order in which the files rest on one
--- another.
+-- another; and how many keys it speaks of.
 pub mod Leaf
 pub mod Search
 pub mod Moves
@@ -16,3 +16,4 @@ pub mod Run
 pub mod Steps
 pub mod Whole
 pub mod Demand
+pub mod Count

@@ -1,1 +1,3 @@
 pub mod Examples
+pub mod Counting
+pub mod Answers

@@ -1,2 +1,4 @@
 pub mod Sample
 pub mod Examples
+pub mod Tally
+pub mod Counting

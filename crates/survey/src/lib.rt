@@ -1,1 +1,63 @@
-// Tally and listing, and the statements that join check, placing and step (01, module 9 and the three demands).
+// Tally (01, module 9), and the worked examples of 01 as a table (specs/Examples.antt).
+//
+// Interface: `tally`, which takes anything and has no `requires`, and its answer `Tallied`.
+use scan::scan_state::Answer;
+use scan::scan_state::Walk;
+use verify::Checked;
+ghost use mathlib.Core.Path.{_≡_};
+ghost use lib.ListN.{length};
+ghost use Rattle.survey.specs.Tally.{tally};
+ghost use Rattle.survey.specs.Counting.{keysFrom};
+
+// The tally's answer: how many keys there are, or 01's number.
+pub enum Tallied {
+    Counted(usize),
+    Declined(u8),
+}
+
+// How many keys a walk above a cursor hands out within a bound. Declined with the check's numbers, then 11, 12 or 13.
+pub fn tally(image: &[u8], cursor: &[u8], kind: u8, bound: &[u8]) -> Tallied
+    ensures { λ r. ⌜ r ≡ tally (now (image .entry)) (now (cursor .entry)) kind (now (bound .entry)) ⌝ }
+{
+    let checked = verify::check_image(image);
+    match checked {
+        Checked::Declined(n) => Tallied::Declined(n),
+        Checked::Accepted {
+            leaves: _,
+            value_slots: _,
+            sub_layers: _,
+        } => {
+            let placed = scan::place_above(image, cursor, kind, bound);
+            let code = placed.code;
+            if code != 0 {
+                return Tallied::Declined(code);
+            }
+            Tallied::Counted(count_keys(placed.walk, image))
+        }
+    }
+}
+
+// The keys that steps of a walk hand out before the first answer that is no key, of as many steps as the image has bytes.
+fn count_keys(walk: Walk, image: &[u8]) -> usize
+    ensures { λ r. ⌜ r ≡ keysFrom (length (now (image .entry))) walk (now (image .entry)) ⌝ }
+{
+    let mut at = walk;
+    let mut count = 0;
+    while count < image.len() {
+        let s = scan::step(at, image);
+        let answer = s.answer;
+        match answer {
+            Answer::Key { len: _, value: _ } => {
+                at = s.walk;
+                count += 1;
+            }
+            Answer::Nothing => {
+                return count;
+            }
+            Answer::Declined(_) => {
+                return count;
+            }
+        }
+    }
+    count
+}
