@@ -1,0 +1,37 @@
+-- The loop over the keys ends: the measure is how many more the image has bytes for. Nothing has to hold from turn to turn.
+use Prim.Native.Nat.{_-_}
+use lib.ListN.{length}
+use borrow.Author.Needs.{needs}
+use Rattle.examples.proofs.answers.Statement.{statement}
+use Rattle.examples.proofs.answers.Tie as tie
+
+abbrev Inv-loop : tie.InvT-loop
+Inv-loop name form image w₀ keys₀ moves₀ t13 w keys moves = Unit {0}
+
+abbrev μ-loop : tie.MeasureT-loop
+μ-loop name form image w₀ keys₀ moves₀ t13 w keys moves = length image - keys
+
+pub answers-spec : {M : Type 1} → statement M
+answers-spec =
+    tie.close
+    (tie.spec
+    Inv-loop
+    μ-loop
+    (λ c. search needs)
+    (λ c κs. search needs)
+    (λ c κs. search needs)
+    (λ c κs. search needs)
+    (λ c. search needs)
+    (λ c κs. search needs)
+    (λ c. search needs)
+    (λ c κs. search needs)
+    (λ c. search needs)
+    (λ c. search needs)
+    (λ c. search needs)
+    (λ c. search needs)
+    (λ c κs. search needs)
+    (λ c. search needs)
+    (λ c. search needs)
+    (λ c. search needs)
+    (λ c. search needs)
+    (λ c. search needs))
