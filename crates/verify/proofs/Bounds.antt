@@ -1,13 +1,13 @@
 -- What the inner answers tell, and that the check's numbers stay small: a subtree keeps `Bounded` for every number of slots
 -- ahead, a slot adds one to it, and the end of a leaf takes all its slots back. By recursion as the check's own.
-use mathlib.Core.Bool.{Bool, true, false, not, _&&_}
+use mathlib.Core.Bool.{Bool, true}
 use mathlib.Core.List.{List}
-use mathlib.Core.Path.{_≡_, refl, sym, subst, _∙_}
-use Prim.Native.Nat.{ℕ, zero, suc, _+_, _*_, _/_, _-_, _<_, _≤_}
+use mathlib.Core.Path.{_≡_, refl}
+use Prim.Native.Nat.{ℕ, zero, suc, _+_, _*_, _-_, _<_, _≤_}
 use native.Mathlib.Nat.{suc-mul}
 use native.Mathlib.Numerals.{sub-one}
 use native.Mathlib.Omega.{arith}
-use lib.Dec.{leb, eqb}
+use lib.Dec.{eqb}
 use lib.ListN.{length}
 use borrow.Author.Tests.{not-false, leb-true, eqb-true, eqb-false}
 use Rattle.base.proofs.Choice.{pick-ind}
@@ -21,8 +21,8 @@ use Rattle.verify.specs.declared.RecordCheck.{RecordCheck}
 use Rattle.verify.specs.declared.RecordCheck.the-variants.{Leaf, Internode, Fault}
 use Rattle.verify.specs.declared.SlotCheck.{SlotCheck}
 use Rattle.verify.specs.declared.SlotCheck.the-variants.{Layer, Passed, Fault as SlotFault}
-use Rattle.verify.specs.Check.{stop, andThen, each, demand, passSuffix, passLeaf, passInternode, enterLayer, leaveLayer, permutes, separatorsFrom, fits, slotC, nodeC, layerC}
-use Rattle.verify.specs.Cases.{afterRecord, afterSlot, subC, leafCheck, internodeCheck, recordCheck, LeafTold, suffixCheck, kindCheck, slotCheck, leafEnd, internodeEnd, layerEnd, Bounded, Sized}
+use Rattle.verify.specs.Check.{stop, andThen, each, demand, passSuffix, passLeaf, passInternode, enterLayer, leaveLayer, separatorsFrom, slotC, nodeC}
+use Rattle.verify.specs.Cases.{afterRecord, afterSlot, subC, leafCheck, internodeCheck, recordCheck, LeafTold, suffixCheck, kindCheck, slotCheck, recordEnd, leafEnd, layerEnd, Bounded, Sized}
 use Rattle.verify.proofs.Going.{says-leb, says-eqb, says-and, says-self}
 use Rattle.verify.proofs.Fields.{layer-kind}
 use Rattle.verify.proofs.Records.{says-reachable}
@@ -138,7 +138,7 @@ end-kept sized a at size q r e h c =
 module _ (image : List ℕ) (sized : Sized image) (sub : ℕ → Progress → Progress) (subs : (root : ℕ) → Adds 0 (sub root)) (depth : ℕ) where
   record-adds : (path at lo hi : ℕ) → ((path ≡ 0 → ⊥) → (i : ℕ) → Adds 0 (childC sub image depth at lo hi (path - 1) i))
       → Adds 0 (nodeC sub image depth path at lo hi)
-  unfolding afterRecord RecordTold leafEnd internodeEnd passLeaf passInternode
+  unfolding afterRecord RecordTold recordEnd leafEnd passLeaf passInternode
   record-adds path at lo hi kids a p b =
       rw (node-is sub image depth at lo hi path p) (go (recordCheck image path at lo hi p) (record-told image path at lo hi p))
     where
@@ -160,7 +160,7 @@ module _ (image : List ℕ) (sized : Sized image) (sub : ℕ → Progress → Pr
           (each-adds 1 _ (slot-adds image sized depth at (t .before) lo hi sub subs) size 0 a p b)
           (λ c. end-kept sized (a + 0) at 400 slots (passLeaf (nextAt image at) slots) refl (omega (arith, t .before)) (omega (arith, c .counted, size-fits (permutationAt image at))))
       go Internode t =
-          then-kept (a + count * 0) (a + 0) children (internodeEnd at) (each-adds 0 _ (kids (t .some)) count 0 a p b)
+          then-kept (a + count * 0) (a + 0) children (recordEnd at 256) (each-adds 0 _ (kids (t .some)) count 0 a p b)
           (λ c. end-kept sized (a + 0) at 256 children (passInternode children) refl (omega (arith, t .before)) (omega (arith, c .counted)))
       go (Fault n) t = stop-kept (a + 0) n
 

@@ -1,9 +1,9 @@
--- What the two functions of the cycle cite: what a turn of each loop comes to, and what it leaves of `Bounded`. `below` is the
--- number of layers that may lie below the one that is checked, `hi` the end of its ikeys. Assumes nothing.
+-- What the two functions of the cycle and `check_image` cite: what a turn of each loop comes to, and what it leaves of
+-- `Bounded`. `below` is the number of layers that may lie below the one that is checked, `hi` the end of its ikeys. Assumes nothing.
 use mathlib.Core.List.{List}
 use mathlib.Core.Logic.{_⊎_, inl, inr}
-use mathlib.Core.Path.{_≡_, refl, sym, subst, ap, _∙_}
-use Prim.Native.Nat.{ℕ, zero, suc, _+_, _*_, _%_, _-_, _^_, _<_, _≤_}
+use mathlib.Core.Path.{_≡_, sym, subst, ap, _∙_}
+use Prim.Native.Nat.{ℕ, zero, suc, _+_, _*_, _-_, _^_, _<_, _≤_}
 use native.Mathlib.Nat.{eq-or-lt-of-le}
 use native.Mathlib.Omega.{arith}
 use lib.ListN.{length}
@@ -21,8 +21,8 @@ use Rattle.verify.specs.declared.RecordCheck.{RecordCheck}
 use Rattle.verify.specs.declared.RecordCheck.the-variants.{Leaf, Internode, Fault}
 use Rattle.verify.specs.declared.SlotCheck.{SlotCheck}
 use Rattle.verify.specs.declared.SlotCheck.the-variants.{Layer, Passed, Fault as SlotFault}
-use Rattle.verify.specs.Check.{stop, andThen, each, enterLayer, leaveLayer, lowEnd, highEnd, separatorsFrom, slotC, nodeC, finish, begin, check}
-use Rattle.verify.specs.Cases.{afterRecord, afterSlot, subC, recordCheck, LeafTold, slotCheck, leafEnd, internodeEnd, layerEnd, Bounded, Sized}
+use Rattle.verify.specs.Check.{stop, andThen, each, enterLayer, leaveLayer, lowEnd, highEnd, slotC, nodeC, finish, begin, check}
+use Rattle.verify.specs.Cases.{afterRecord, afterSlot, subC, recordCheck, LeafTold, slotCheck, layerEnd, Bounded, Sized}
 use Rattle.verify.proofs.Records.{Separators, says-separators}
 use Rattle.verify.proofs.Steps.{childC, leafParts, innerParts, node-is, slot-is, layer-is, sub-is}
 use Rattle.verify.proofs.Bounds.{InternodeTold, RecordTold, record-told, Kept, weaker, demand-kept, then-kept, each-adds, SlotTold, slot-told, slot-adds, node-adds, sub-adds}
@@ -158,10 +158,9 @@ module _ (image : List ℕ) (n : ℕ) (e : n ≡ headingFault image) where
 
   pub heading-sized : n ≡ 0 → Sized image
   unfolding headingFault
-  heading-sized z = pick-ind (λ (x : ℕ). x ≡ 0 → Sized image) (lengthOk (length image)) (λ t q. fitting (length-fits _ t)) (λ t q. absurd (omega arith)) (sym e ∙ z)
-    where
-      fitting : (440 ≤ length image) × (length image ≤ 16777216) × (length image % 8 ≡ 0) → Sized image
-      fitting h = record { long = h .0; short = h .1 }
+  heading-sized z =
+      pick-ind (λ (x : ℕ). x ≡ 0 → Sized image) (lengthOk (length image))
+      (λ t q. let h = length-fits (length image) t in record { long = h .0; short = h .1 }) (λ t q. absurd (omega arith)) (sym e ∙ z)
 
   module _ (p : Progress) (f : p ≡ begin) where
     pub begin-bounded : Bounded 0 p

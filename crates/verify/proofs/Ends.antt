@@ -1,5 +1,5 @@
--- Small laws that single functions cite: where a record may lie at the latest, and the ends of an internode's children.
--- Assumes nothing.
+-- Small laws that single functions cite: what a tested answer says, where a record may lie at the latest, and the ends of an
+-- internode's children. Assumes nothing.
 use mathlib.Core.Path.{_≡_, refl, sym, _∙_}
 use mathlib.Core.Bool.{Bool, true, false, not}
 use mathlib.Core.List.{List}

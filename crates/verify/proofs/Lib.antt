@@ -1,3 +1,5 @@
+-- The lemma files of this crate: up to Theorem, that the check accepts exactly where 01's rules hold; behind it, what the
+-- proofs of the functions cite.
 pub mod Going
 pub mod Zeros
 pub mod Fields
@@ -11,6 +13,7 @@ pub mod Layers
 pub mod Theorem
 pub mod Turns
 pub mod Ends
+pub mod RecordTests
 pub mod SlotTests
 pub mod Steps
 pub mod Bounds

@@ -1,7 +1,6 @@
 -- Laws of a slot's tests, for the numbers that the code has read: zero bytes by two shifts, a suffix's length, the slot
 -- before. Assumes nothing.
 use mathlib.Core.Path.{_≡_, refl}
-use mathlib.Core.Bool.{Bool, true, false, _&&_}
 use mathlib.Core.List.{List}
 use Prim.Native.Nat.{ℕ, zero, suc, _+_, _*_, _/_, _%_, _-_, _^_, _<_, _≤_}
 use native.Mathlib.Nat.{pow-suc, mod-eq-of-lt, div-add-mod'}
@@ -26,15 +25,15 @@ bytes zero = refl
 bytes (suc m) = let e : 8 * suc m ≡ 8 * m + 8 = omega arith in rw (e, pow-add 2 (8 * m) 8, bytes m, pow-suc 256 m)
 
 -- an ikey comes back from two shifts where the bytes that they clear are zero
+shifted : (x b : ℕ) → x < 2 ^ 64 → eqb (x / b * b % 18446744073709551616) x ≡ eqb (x % b) 0
+shifted x b h =
+    let split : x / b * b + x % b ≡ x = div-add-mod' x b in
+    let whole : x / b * b % 18446744073709551616 ≡ x / b * b = mod-eq-of-lt (omega arith) in
+    rw whole (same-test (says-as (λ q. omega arith) (λ q. omega arith) (says-eqb (x / b * b) x)) (says-eqb (x % b) 0))
+
 pub filled : (x n : ℕ) → x < 2 ^ 64 → n ≤ 8
     → eqb (x / 2 ^ (64 - 8 * n) * 2 ^ (64 - 8 * n) % 18446744073709551616) x ≡ eqb (x % 256 ^ (8 - n)) 0
-filled x n h g =
-    let e : 64 - 8 * n ≡ 8 * (8 - n) = omega arith in
-    let split : x / 256 ^ (8 - n) * 256 ^ (8 - n) + x % 256 ^ (8 - n) ≡ x = div-add-mod' x (256 ^ (8 - n)) in
-    let whole : x / 256 ^ (8 - n) * 256 ^ (8 - n) % 18446744073709551616 ≡ x / 256 ^ (8 - n) * 256 ^ (8 - n) =
-    mod-eq-of-lt (omega arith) in
-    rw (e, bytes (8 - n), whole)
-    (same-test (says-as (λ q. omega arith) (λ q. omega arith) (says-eqb (x / 256 ^ (8 - n) * 256 ^ (8 - n)) x)) (says-eqb (x % 256 ^ (8 - n)) 0))
+filled x n h g = let e : 64 - 8 * n ≡ 8 * (8 - n) = omega arith in rw (e, bytes (8 - n)) (shifted x (256 ^ (8 - n)) h)
 
 -- a key of at most 256 bytes
 pub short-key : (depth len : ℕ) → depth ≤ 31 → leb len (248 - 8 * depth) ≡ leb (8 * depth + 8 + len) 256

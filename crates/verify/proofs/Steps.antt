@@ -1,21 +1,21 @@
 -- The check, said by what its inner functions answer: a subtree by its record, a slot by its kind, a layer by its subtree;
 -- and a loop over parts, one turn at a time. Assumes nothing.
-use mathlib.Core.Path.{_≡_, refl, sym, ap, _∙_}
+use mathlib.Core.Path.{_≡_, refl, ap, _∙_}
 use mathlib.Core.Bool.{Bool, true, false, not, _&&_}
 use mathlib.Core.List.{List}
 use Prim.Native.Nat.{ℕ, zero, suc, _+_, _*_, _/_, _-_, _^_, _<_, _≤_}
 use native.Mathlib.Numerals.{sub-one}
 use native.Mathlib.Omega.{arith}
 use lib.Dec.{leb, eqb}
-use borrow.Author.Tests.{eq-eqb, ne-eqb, eqb-true}
+use borrow.Author.Tests.{eq-eqb, ne-eqb}
 use Rattle.base.specs.Pick.{pick}
 use Rattle.base.proofs.Count.{left-more}
 use Rattle.node.specs.Permuter.{sizeOf}
-use Rattle.node.specs.Layout.{permutationAt, nkeysAt, childAt, suffixAt}
+use Rattle.node.specs.Layout.{permutationAt, nkeysAt, childAt}
 use Rattle.layering.specs.Tree.{Fields, fieldsAt}
 use Rattle.layering.specs.Accepted.{room}
-use Rattle.verify.specs.Check.{stop, andThen, each, demand, passSuffix, listed, fits, inOrder, inRange, suffixC, layerSlotC, slotC, leafC, lowEnd, highEnd, internodeC, recordC, nodeC, layerWith, layerC}
-use Rattle.verify.specs.Cases.{afterRecord, afterSlot, subC, leafCheck, internodeCheck, recordCheck, suffixCheck, kindCheck, slotCheck, leafEnd, internodeEnd, layerEnd}
+use Rattle.verify.specs.Check.{stop, andThen, each, demand, passSuffix, passInternode, listed, fits, inOrder, inRange, suffixC, layerSlotC, slotC, leafC, lowEnd, highEnd, internodeC, recordC, nodeC, layerWith, layerC}
+use Rattle.verify.specs.Cases.{afterRecord, afterSlot, subC, leafCheck, internodeCheck, recordCheck, suffixCheck, kindCheck, slotCheck, recordEnd, leafEnd, layerEnd}
 use Rattle.verify.specs.declared.Progress.{Progress}
 use Rattle.verify.specs.declared.RecordCheck.{RecordCheck}
 use Rattle.verify.specs.declared.SlotCheck.{SlotCheck}
@@ -72,11 +72,11 @@ module _ (sub : ℕ → Progress → Progress) (image : List ℕ) (depth at lo h
   leafParts p = andThen (each (slotC sub image depth at lo hi) 0 (sizeOf (permutationAt image at)) p) (leafEnd image at)
 
   abbrev pub innerParts : ℕ → Progress → Progress
-  innerParts q p = andThen (each (childC q) 0 (nkeysAt image at + 1) p) (internodeEnd at)
+  innerParts q p = andThen (each (childC q) 0 (nkeysAt image at + 1) p) (recordEnd at 256)
 
   pub node-is : (path : ℕ) (p : Progress)
       → nodeC sub image depth path at lo hi p ≡ afterRecord (recordCheck image path at lo hi p) (leafParts p) (innerParts (path - 1) p)
-  unfolding nodeC recordC recordCheck leafCheck internodeCheck leafC internodeC afterRecord leafEnd internodeEnd
+  unfolding nodeC recordC recordCheck leafCheck internodeCheck leafC internodeC afterRecord passInternode leafEnd recordEnd
   node-is zero p = simp (record-pick, pick-true)
   node-is (suc n) p = rw sub-one (simp (record-pick, ne-eqb (suc n) 0 (λ e. omega arith), pick-false))
 

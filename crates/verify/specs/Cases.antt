@@ -1,6 +1,6 @@
 -- What the check's inner functions answer, each in the order of its tests, and what the cases of their answers stand for.
 -- proofs/Steps.antt proves that they come to the check (specs/Check.antt).
-use mathlib.Core.Bool.{Bool, true, false, not, _&&_}
+use mathlib.Core.Bool.{true, false, not, _&&_}
 use mathlib.Core.List.{List, []}
 use mathlib.Core.Path.{_≡_}
 use Prim.Native.Nat.{ℕ, zero, suc, _+_, _*_, _/_, _≤_}
@@ -13,7 +13,7 @@ use Rattle.node.specs.Layout.{versionAt, permutationAt, ikeyAt, keylenxAt, valu
 use Rattle.node.specs.declared.permuter.Slot.{Slot}
 use Rattle.node.specs.declared.leaf.Suffix.{Suffix}
 use Rattle.layering.specs.Tree.{Fields}
-use Rattle.verify.specs.Check.{stop, andThen, demand, passSuffix, passLeaf, passInternode, enterLayer, leaveLayer, reachable, expected, permutes, separatorsFrom, listed, fits, inOrder, inRange, layerC}
+use Rattle.verify.specs.Check.{stop, andThen, demand, passSuffix, passLeaf, enterLayer, leaveLayer, reachable, expected, permutes, separatorsFrom, listed, fits, inOrder, inRange, layerC}
 use Rattle.verify.specs.declared.Progress.{Progress}
 use Rattle.verify.specs.declared.RecordCheck.{RecordCheck}
 use Rattle.verify.specs.declared.RecordCheck.the-variants.{Leaf, Internode, Fault}
@@ -87,12 +87,14 @@ pub record Opened (image : List ℕ) (at permutation : ℕ) : Type 0 where
   pub is : permutation ≡ permutationAt image at
   pub permuted : permutes permutation ≡ true
 
--- ENDS of a leaf, an internode and a layer: "After a record's parts 3"; "After a layer 9".
+-- ENDS of a record of `size` bytes, of a leaf, and of a layer: "After a record's parts 3"; "After a layer 9".
+unfoldable pub recordEnd : ℕ → ℕ → Progress → Progress
+recordEnd at size q =
+    demand 3 (eqb at (q .place))
+    (record { fault = q .fault; place = q .place + size; chained = q .chained; next = q .next; counts = q .counts })
+
 unfoldable pub leafEnd : List ℕ → ℕ → Progress → Progress
 leafEnd image at q = demand 3 (eqb at (q .place)) (passLeaf (nextAt image at) q)
-
-unfoldable pub internodeEnd : ℕ → Progress → Progress
-internodeEnd at q = demand 3 (eqb at (q .place)) (passInternode q)
 
 unfoldable pub layerEnd : Progress → Progress
 layerEnd q = demand 9 (eqb (q .next) 0) q

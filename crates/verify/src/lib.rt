@@ -12,7 +12,7 @@ use node::leaf;
 use node::permuter;
 use node::trailer;
 ghost use mathlib.Core.Path.{_≡_};
-ghost use Prim.Native.Nat.{ℕ, _+_, _*_, _-_, _≤_};
+ghost use Prim.Native.Nat.{_+_, _*_, _-_, _≤_};
 ghost use Rattle.node.specs.Layout.{permutationAt};
 ghost use Rattle.node.specs.Permuter.{sizeOf};
 ghost use Rattle.verify.specs.Check.{each, slotC, nodeC, check};
@@ -35,14 +35,15 @@ pub enum Checked {
     Declined(u8),
 }
 
-// How far the check has come: the number of the fault that ended it, or 0; the place reached; whether this layer has had
-// a leaf, and the leaf that the last one names as its next; and what was counted.
+// How far the check has come: the place reached; the leaf that the last one names as its next; what was counted; the
+// number of the fault that ended the check, or 0; and whether this layer has had a leaf. The two small fields stand last:
+// between wide ones the gaps behind them would be copied, which took two thirds of the check's time.
 pub struct Progress {
-    pub fault: u8,
     pub place: usize,
-    pub chained: bool,
     pub next: u64,
     pub counts: Counts,
+    pub fault: u8,
+    pub chained: bool,
 }
 
 // What a record comes to on being reached: its kind, or the number of a fault.
@@ -121,7 +122,7 @@ fn check_subtree(
                 }
                 i += 1;
             }
-            pass::end_internode(place, sofar)
+            pass::end_record(place, internode::INTERNODE_SIZE, sofar)
         }
     }
 }

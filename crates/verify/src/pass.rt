@@ -5,19 +5,20 @@ use crate::Progress;
 use node::leaf;
 use node::trailer;
 ghost use mathlib.Core.Path.{_≡_};
+ghost use mathlib.Core.Bool.{false};
 ghost use Prim.Native.Nat.{_+_, _≤_};
 ghost use lib.ListN.{length};
 ghost use Rattle.node.specs.Layout.{InLeaf};
 ghost use Rattle.verify.specs.Check.{stop, andThen, passSuffix, enterLayer, leaveLayer, finish, begin};
-ghost use Rattle.verify.specs.Cases.{leafEnd, internodeEnd, layerEnd, Bounded};
+ghost use Rattle.verify.specs.Cases.{recordEnd, leafEnd, layerEnd, Bounded};
 
-// Before the first record: nothing is counted, and records begin at byte 8.
-pub fn begin() -> Progress
-    ensures { λ r. ⌜ r ≡ begin ⌝ }
+// Nothing is counted, and no leaf was met.
+fn uncounted(fault: u8, place: usize) -> Progress
+    ensures { λ r. ⌜ r ≡ record { fault = fault; place = place; chained = false; next = 0; counts = record { leaves = 0; «value_slots» = 0; «sub_layers» = 0 } } ⌝ }
 {
     Progress {
-        fault: 0,
-        place: 8,
+        fault: fault,
+        place: place,
         chained: false,
         next: 0,
         counts: Counts {
@@ -28,21 +29,18 @@ pub fn begin() -> Progress
     }
 }
 
+// Before the first record: records begin at byte 8.
+pub fn begin() -> Progress
+    ensures { λ r. ⌜ r ≡ begin ⌝ }
+{
+    uncounted(0, 8)
+}
+
 // At a fault all else is 0.
 pub fn stopped(n: u8) -> Progress
     ensures { λ r. ⌜ r ≡ stop n ⌝ }
 {
-    Progress {
-        fault: n,
-        place: 0,
-        chained: false,
-        next: 0,
-        counts: Counts {
-            leaves: 0,
-            value_slots: 0,
-            sub_layers: 0,
-        },
-    }
+    uncounted(n, 0)
 }
 
 // Past a value slot, whose suffix takes `bytes`.
@@ -58,7 +56,24 @@ pub fn pass_suffix(p: Progress, bytes: usize) -> Progress
     q
 }
 
-// Behind a leaf's slots: past the leaf, which must start at the place reached.
+// Past a record of `size` bytes, behind its parts: it must start at the place reached.
+pub fn end_record(at: usize, size: usize, q: Progress) -> Progress
+    requires { ⌜ size ≤ 400 ⌝ }
+    requires { ⌜ (q .fault ≡ 0 → q .place ≤ 16777216) ⌝ }
+    ensures { λ r. ⌜ r ≡ andThen q (recordEnd at size) ⌝ }
+{
+    if q.fault != 0 {
+        return q;
+    }
+    if at != q.place {
+        return stopped(3);
+    }
+    let mut r = q;
+    r.place = q.place + size;
+    r
+}
+
+// Past a leaf, behind its slots: it is counted, and names the next one.
 pub fn end_leaf(image: &[u8], at: usize, q: Progress) -> Progress
     requires { ⌜ InLeaf (now image) at ⌝ }
     requires { ⌜ (q .fault ≡ 0 → Bounded 480 q) ⌝ }
@@ -67,32 +82,12 @@ pub fn end_leaf(image: &[u8], at: usize, q: Progress) -> Progress
     if q.fault != 0 {
         return q;
     }
-    if at != q.place {
-        return stopped(3);
-    }
     let mut r = q;
     let leaves = q.counts.leaves + 1;
-    r.place = q.place + leaf::LEAF_SIZE;
     r.chained = true;
     r.next = leaf::next(image, at);
     r.counts.leaves = leaves;
-    r
-}
-
-// Behind an internode's children, the same.
-pub fn end_internode(at: usize, q: Progress) -> Progress
-    requires { ⌜ (q .fault ≡ 0 → Bounded 480 q) ⌝ }
-    ensures { λ r. ⌜ r ≡ andThen q (internodeEnd at) ⌝ }
-{
-    if q.fault != 0 {
-        return q;
-    }
-    if at != q.place {
-        return stopped(3);
-    }
-    let mut r = q;
-    r.place = q.place + 256;
-    r
+    end_record(at, leaf::LEAF_SIZE, r)
 }
 
 // Behind a layer's subtree: its last leaf must name no next one.

@@ -16,7 +16,7 @@ use Rattle.verify.specs.declared.Progress.{Progress}
 use Rattle.verify.specs.declared.RecordCheck.the-variants.{Internode}
 use Rattle.verify.specs.declared.SlotCheck.the-variants.{Layer}
 use Rattle.verify.specs.Check.{andThen, each, slotC}
-use Rattle.verify.specs.Cases.{subC, leafEnd, internodeEnd, Bounded}
+use Rattle.verify.specs.Cases.{subC, recordEnd, leafEnd, Bounded}
 use Rattle.verify.proofs.Steps.{childC, each-none, each-on, each-stop, then-stop}
 use Rattle.verify.proofs.Bounds.{InternodeTold, weaker}
 use Rattle.verify.proofs.Cycle as cycle
@@ -29,7 +29,7 @@ use Rattle.verify.proofs.+check_layers+check_subtree.Lts-check_subtree 
 use Rattle.node.proofs.internode.child.Reads as child-reads
 use Rattle.node.proofs.leaf.permutation.Reads as permutation-reads
 use Rattle.node.proofs.permuter.size.Reads as size-reads
-use Rattle.verify.proofs.pass.end_internode.Reads as end-internode-reads
+use Rattle.verify.proofs.pass.end_record.Reads as end-record-reads
 use Rattle.verify.proofs.pass.end_layer.Reads as end-layer-reads
 use Rattle.verify.proofs.pass.end_leaf.Reads as end-leaf-reads
 use Rattle.verify.proofs.pass.enter_layer.Reads as enter-layer-reads
@@ -77,7 +77,7 @@ abbrev check-layers-calls : ℕ → check-layers-lts.Claims
 check-layers-calls t = (permutation-reads.Asked, permutation-reads.Learnt, size-reads.Asked, size-reads.Learnt, slot-check-reads.Asked, slot-check-reads.Learnt, stopped-reads.Asked, stopped-reads.Learnt, enter-layer-reads.Asked, enter-layer-reads.Learnt, check-subtree-below t, check-subtree.Post, end-layer-reads.Asked, end-layer-reads.Learnt, leave-layer-reads.Asked, leave-layer-reads.Learnt)
 
 abbrev check-subtree-calls : ℕ → check-subtree-lts.Claims
-check-subtree-calls t = (record-check-reads.Asked, record-check-reads.Learnt, stopped-reads.Asked, stopped-reads.Learnt, check-layers-below t, check-layers.Post, end-leaf-reads.Asked, end-leaf-reads.Learnt, child-count-reads.Asked, child-count-reads.Learnt, child-reads.Asked, child-reads.Learnt, low-end-reads.Asked, low-end-reads.Learnt, high-end-reads.Asked, high-end-reads.Learnt, check-subtree-below t, check-subtree.Post, end-internode-reads.Asked, end-internode-reads.Learnt)
+check-subtree-calls t = (record-check-reads.Asked, record-check-reads.Learnt, stopped-reads.Asked, stopped-reads.Learnt, check-layers-below t, check-layers.Post, end-leaf-reads.Asked, end-leaf-reads.Learnt, child-count-reads.Asked, child-count-reads.Learnt, child-reads.Asked, child-reads.Learnt, low-end-reads.Asked, low-end-reads.Learnt, high-end-reads.Asked, high-end-reads.Learnt, check-subtree-below t, check-subtree.Post, end-record-reads.Asked, end-record-reads.Learnt)
 
 -- THE LAYERS of a leaf
 abbrev check-layers-Inv-loop : check-layers-lts.InvT-loop
@@ -127,7 +127,10 @@ check-layers-slot-check-requires t c κs =
     let told = start .pre .1 .1 .1 .0 in
     let e = c .before .before .before .permutation .ensures in (
       record { inside = omega (arith, told .before); is = e; permuted = rw e (told .permuted) },
-      (omega arith, (omega (arith, told .before, start .pre .1 .0 .short), (omega arith, weaker _ _ _ (omega arith) (c .before .loop .inv .2)))),
+      (
+        omega arith,
+        (omega (arith, told .before, start .pre .1 .0 .short), (omega arith, weaker _ _ _ (omega arith) (c .before .loop .inv .2))),
+      ),
     )
 
 check-layers-returns : (t : ℕ) → check-layers-lts.Need-returns (check-layers-calls t) (check-layers-at t) check-layers.Post check-layers-Inv-loop check-layers-μ-loop
@@ -148,7 +151,8 @@ check-layers-enter-layer-requires t c κs = weaker _ _ _ (omega arith) (c .befor
 check-layers-check-subtree-requires : (t : ℕ) → check-layers-lts.Need-check-subtree-requires (check-layers-calls t) (check-layers-at t) check-layers.Post check-layers-Inv-loop check-layers-μ-loop
 check-layers-check-subtree-requires t c κs =
     let some = deep t (c .before .before .before .before) _ (c .before .before .found3 .given .1) in
-    (search needs, (c .before .before .before .before .before .before .before .before .before .before .pre .1 .0, (omega arith, weaker _ _ _ (omega arith) (cycle.entered _ _ _ (c .enter-layer .ensures) (c .before .before .before .before .before .before .loop .inv .2)))))
+    let inside = cycle.entered _ _ _ (c .enter-layer .ensures) (c .before .before .before .before .before .before .loop .inv .2) in
+    (search needs, (c .before .before .before .before .before .before .before .before .before .before .pre .1 .0, (omega arith, weaker _ _ _ (omega arith) inside)))
 
 check-layers-returns-2 : (t : ℕ) → check-layers-lts.Need-returns-2 (check-layers-calls t) (check-layers-at t) check-layers.Post check-layers-Inv-loop check-layers-μ-loop
 check-layers-returns-2 t c = each-stop _ _ _ _ _ (c .before .before .before .before .before .loop .inv .3) (c .before .before .before .before .loop-test .taken) _ (turned t (c .before .before)) (c .if1 .taken)
@@ -239,7 +243,7 @@ check-subtree-check-subtree-requires t c κs =
 check-subtree-returns : (t : ℕ) → check-subtree-lts.Need-returns (check-subtree-calls t) (check-subtree-at t) check-subtree.Post check-subtree-Inv-loop check-subtree-μ-loop
 check-subtree-returns t c =
     let stopped = each-stop _ _ _ _ _ (c .before .before .before .before .before .before .before .loop .inv .2) (c .before .before .before .before .before .before .loop-test .taken) _ (gone t (c .before .before)) (c .if1 .taken) in
-    then-stop _ _ (c .if1 .taken) ∙ ap (λ (x : Progress). andThen x (internodeEnd (c .before .before .before .before .before .before .before .before .before .before .before .before .before .args .at))) stopped
+    then-stop _ _ (c .if1 .taken) ∙ ap (λ (x : Progress). andThen x (recordEnd (c .before .before .before .before .before .before .before .before .before .before .before .before .before .args .at) 256)) stopped
     ∙ cycle.node-inner _ _ _ _ _ _ _ (c .before .before .before .before .before .before .before .before .before .before .before .record-check .ensures) _ (c .before .before .before .before .before .before .before .before .before .enum-told2 .given .1)
 
 check-subtree-loop-again : (t : ℕ) → check-subtree-lts.Need-loop-again (check-subtree-calls t) (check-subtree-at t) check-subtree.Post check-subtree-Inv-loop check-subtree-μ-loop
@@ -250,8 +254,8 @@ check-subtree-loop-again t c =
       each-on _ _ _ _ _ (inv .2) (c .before .before .before .before .before .before .loop-test .taken) _ (gone t (c .before .before)) (c .if1 .left),
     )
 
-check-subtree-end-internode-requires : (t : ℕ) → check-subtree-lts.Need-end-internode-requires (check-subtree-calls t) (check-subtree-at t) check-subtree.Post check-subtree-Inv-loop check-subtree-μ-loop
-check-subtree-end-internode-requires t c κs = λ z. weaker _ _ _ (omega arith) (c .before .loop .inv .1)
+check-subtree-end-record-requires : (t : ℕ) → check-subtree-lts.Need-end-record-requires (check-subtree-calls t) (check-subtree-at t) check-subtree.Post check-subtree-Inv-loop check-subtree-μ-loop
+check-subtree-end-record-requires t c κs = (search needs, λ z. c .before .loop .inv .1 .within)
 
 check-subtree-returns-2 : (t : ℕ) → check-subtree-lts.Need-returns-2 (check-subtree-calls t) (check-subtree-at t) check-subtree.Post check-subtree-Inv-loop check-subtree-μ-loop
 check-subtree-returns-2 t c = cycle.node-stopped _ _ _ _ _ _ _ (c .before .before .before .before .record-check .ensures) _ _ (c .before .before .found .given .1) _ (c .stopped .ensures)
@@ -265,8 +269,8 @@ check-subtree-returns-3 t c =
 
 check-subtree-returns-4 : (t : ℕ) → check-subtree-lts.Need-returns-4 (check-subtree-calls t) (check-subtree-at t) check-subtree.Post check-subtree-Inv-loop check-subtree-μ-loop
 check-subtree-returns-4 t c =
-    c .end-internode .ensures
-    ∙ ap (λ (x : Progress). andThen x (internodeEnd (c .before .before .before .before .before .before .before .before .args .at)))
+    c .end-record .ensures
+    ∙ ap (λ (x : Progress). andThen x (recordEnd (c .before .before .before .before .before .before .before .before .args .at) 256))
     (each-none _ _ _ _ _ (c .before .before .loop .inv .2) (c .before .loop-test .left))
     ∙ cycle.node-inner _ _ _ _ _ _ _ (c .before .before .before .before .before .before .record-check .ensures) _ (c .before .before .before .before .enum-told2 .given .1)
 
@@ -312,7 +316,7 @@ pub +check-layers+check-subtree-spec : {M : Type 1} → statement M
     (λ c. search needs)
     (λ c. search needs)
     (check-subtree-loop-again t)
-    (check-subtree-end-internode-requires t)
+    (check-subtree-end-record-requires t)
     (check-subtree-returns-2 t)
     (check-subtree-returns-3 t)
     (check-subtree-returns-4 t)

@@ -6,4 +6,4 @@ use Rattle.verify.proofs.pass.begin.Tie as tie
 
 pub begin-spec : {M : Type 1} → statement M
 unfolding begin
-begin-spec = tie.close (tie.spec (λ c. search needs))
+begin-spec = tie.close (tie.spec (λ c κs. search needs) (λ c. search needs))

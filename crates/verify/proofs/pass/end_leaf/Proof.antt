@@ -1,22 +1,25 @@
--- The tests stand in the order of the definition; the leaf's next is read from it.
+-- A leaf's end is that of a record, once it is counted and its next is kept; neither is what the end tests.
 use borrow.Author.Needs.{needs}
 use native.Mathlib.Omega.{arith}
+use borrow.Author.Tests.{eq-eqb}
 use Rattle.base.specs.Pick.{pick}
 use Rattle.base.proofs.Tests.{tests}
 use Rattle.verify.specs.Check.{andThen, demand, passLeaf}
-use Rattle.verify.specs.Cases.{leafEnd}
+use Rattle.verify.specs.Cases.{recordEnd, leafEnd}
 use Rattle.verify.proofs.pass.end_leaf.Statement.{statement}
 use Rattle.verify.proofs.pass.end_leaf.Tie as tie
 
+returns-2 : tie.Need-returns-2
+unfolding andThen pick recordEnd leafEnd demand passLeaf
+returns-2 c = rw (c .end-record .ensures, eq-eqb _ _ (c .before .before .before .before .if1 .left), c .before .before .next .ensures)
+
 pub end-leaf-spec : {M : Type 1} → statement M
-unfolding andThen pick leafEnd demand passLeaf
+unfolding andThen pick
 end-leaf-spec =
     tie.close
     (tie.spec
     (λ c. search tests)
+    (λ c. omega (arith, c .before .before .before .before .pre .1 (c .before .if1 .left)))
     (λ c κs. search needs)
-    (λ c. search (tests, c .stopped .ensures))
-    (λ c. omega (arith, c .before .before .before .before .before .before .pre .1 (c .before .before .before .if1 .left)))
-    (λ c. omega (arith, c .before .before .before .before .before .before .before .pre .1 (c .before .before .before .before .if1 .left)))
-    (λ c κs. search needs)
-    (λ c. search (tests, c .before .next .ensures)))
+    (λ c κs. (search needs, λ z. c .before .before .before .before .before .before .pre .1 (c .before .before .before .if1 .left) .within))
+    returns-2)

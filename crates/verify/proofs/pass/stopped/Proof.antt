@@ -6,4 +6,4 @@ use Rattle.verify.proofs.pass.stopped.Tie as tie
 
 pub stopped-spec : {M : Type 1} → statement M
 unfolding stop
-stopped-spec = tie.close (tie.spec (λ c. search needs))
+stopped-spec = tie.close (tie.spec (λ c κs. search needs) (λ c. search needs))

@@ -14,6 +14,9 @@ Inv-loop image at lo top n low₀ i₀ low i = (i ≤ n) × (separatorsFrom imag
 abbrev μ-loop : tie.MeasureT-loop
 μ-loop image at lo top n low₀ i₀ low i = n - i
 
+loop-again : tie.Need-loop-again Inv-loop μ-loop
+loop-again c = (search needs, search between)
+
 pub has-separators-spec : {M : Type 1} → statement M
 has-separators-spec =
     tie.close
@@ -26,5 +29,5 @@ has-separators-spec =
     (λ c. search not-below)
     (λ c. search needs)
     (λ c. search needs)
-    (λ c. (search needs, search between))
+    loop-again
     (λ c. search all-between))

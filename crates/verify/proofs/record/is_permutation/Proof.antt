@@ -19,6 +19,11 @@ loop-holds : tie.Need-loop-holds Inv-loop μ-loop
 unfolding permutes
 loop-holds c = (search needs, seen-none _, simp sub-zero)
 
+returns-2 : tie.Need-returns-2 Inv-loop μ-loop
+returns-2 c =
+    let inv = c .before .before .before .before .loop .inv in
+    repeated _ _ _ _ (inv .2) _ (c .before .before .get .ensures) (c .before .before .before .loop-test .taken) (c .before .if1 .left) _ (inv .1) (c .if2 .taken)
+
 loop-again : tie.Need-loop-again Inv-loop μ-loop
 loop-again c =
     let inv = c .before .before .before .before .loop .inv in (
@@ -35,9 +40,9 @@ is-permutation-spec =
     μ-loop
     loop-holds
     (λ c κs. search needs)
-    (λ c. too-high _ _ _ _ (c .before .before .before .loop .inv .2) _ (c .before .get .ensures) (c .before .before .loop-test .taken) (c .if1 .taken))
+    (λ c. search too-high)
     (λ c. omega (arith, c .before .before .before .loop .inv .1 .long))
-    (λ c. repeated _ _ _ _ (c .before .before .before .before .loop .inv .2) _ (c .before .before .get .ensures) (c .before .before .before .loop-test .taken) (c .before .if1 .left) _ (c .before .before .before .before .loop .inv .1) (c .if2 .taken))
+    returns-2
     (λ c. omega (arith, c .before .before .before .before .loop .inv .1 .long))
     (λ c. search needs)
     (λ c. search needs)

@@ -1,6 +1,6 @@
 -- The tests stand in the order of the definition; a record that is reachable lies in the image.
 use borrow.Author.Needs.{needs}
-use mathlib.Core.Path.{_≡_, ap, _∙_}
+use mathlib.Core.Path.{ap, _∙_}
 use native.Mathlib.Omega.{arith}
 use Rattle.base.proofs.Choice.{choices}
 use Rattle.node.specs.Version.{isLeaf}
@@ -8,6 +8,11 @@ use Rattle.verify.specs.Cases.{recordCheck}
 use Rattle.verify.proofs.Ends.{before-trailer}
 use Rattle.verify.proofs.record.record_check.Statement.{statement}
 use Rattle.verify.proofs.record.record_check.Tie as tie
+
+internode-check-requires : tie.Need-internode-check-requires
+internode-check-requires c κs =
+    let read = c .before .before in
+    (omega (arith, before-trailer _ _ _ _ _ (read .before .before .is-reachable .ensures) (read .before .if1 .left)), read .version .ensures)
 
 pub record-check-spec : {M : Type 1} → statement M
 unfolding recordCheck
@@ -20,5 +25,5 @@ record-check-spec =
     (λ c κs. search needs)
     (λ c κs. search needs)
     (λ c. let leaf = c .before .before .is-leaf .ensures ∙ ap isLeaf (c .before .before .before .version .ensures) in search choices)
-    (λ c κs. (omega (arith, before-trailer _ _ _ _ _ (c .before .before .before .before .is-reachable .ensures) (c .before .before .before .if1 .left)), c .before .before .version .ensures))
+    internode-check-requires
     (λ c. let leaf = c .before .before .is-leaf .ensures ∙ ap isLeaf (c .before .before .before .version .ensures) in search choices))

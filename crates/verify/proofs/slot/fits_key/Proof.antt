@@ -16,9 +16,11 @@ returns c = rw (← c .before .before .ksuf .ensures, eq-eqb _ _ (c .before .bef
 returns-2 : tie.Need-returns-2
 unfolding fits pick
 returns-2 c =
-    let a = c .before .before .before .before .before .before .args in
-    let len = c .before .before .before .ksuf .result .len in
-    rw (← c .before .before .before .ksuf .ensures, eq-eqb _ _ (c .before .before .before .before .if1 .taken), lt-ltb 0 len (omega arith)) (short-key (a .depth) len (c .before .before .before .before .before .before .pre .1))
+    let start = c .before .before .before .before .before .before in
+    let read = c .before .before .before in
+    let len = read .ksuf .result .len in
+    rw (← read .ksuf .ensures, eq-eqb _ _ (read .before .if1 .taken), lt-ltb 0 len (omega arith))
+    (short-key (start .args .depth) len (start .pre .1))
 
 pub fits-key-spec : {M : Type 1} → statement M
 unfolding fits pick

@@ -10,9 +10,11 @@ use Rattle.verify.proofs.slot.is_in_order.Tie as tie
 
 returns-2 : tie.Need-returns-2
 returns-2 c =
-    let pre = c .before .before .before .before .before .before .pre in
+    let got = c .before .before .before in
+    let pre = got .before .before .before .pre in
     c .is-before .ensures
-    ∙ order-inner _ _ _ _ _ _ _ _ _ (pre .0 .is) (c .before .before .before .before .if1 .left) (c .before .before .before .get .ensures) (c .before .before .ikey .ensures) (c .before .keylenx .ensures) (pre .1 .1 .0) (pre .1 .1 .1)
+    ∙ order-inner _ _ _ _ _ _ _ _ _ (pre .0 .is) (got .before .if1 .left) (got .get .ensures) (c .before .before .ikey .ensures)
+    (c .before .keylenx .ensures) (pre .1 .1 .0) (pre .1 .1 .1)
 
 pub is-in-order-spec : {M : Type 1} → statement M
 unfolding inOrder

@@ -5,6 +5,7 @@ use mathlib.Core.Bool.{or-true}
 use Prim.Native.Nat.{_^_, _<_}
 use native.Mathlib.Nat.{mod-eq-of-lt}
 use native.Mathlib.Omega.{arith}
+use borrow.Author.Tests.{ne-eqb}
 use Rattle.base.specs.Pick.{pick}
 use Rattle.base.proofs.Tests.{tests}
 use Rattle.verify.specs.Check.{listed}
@@ -17,14 +18,19 @@ returns-3 c = search (tests, or-true, c .is-filled .ensures)
 
 returns-4 : tie.Need-returns-4
 unfolding listed pick
-returns-4 c = let none : c .before .before .before .args .keylenx ≡ 0 = omega arith in rw none (search tests)
+returns-4 c =
+    let a = c .before .before .before .args in
+    let none : a .keylenx ≡ 0 = omega arith in
+    rw (none, ne-eqb (a .depth) 0 (λ e. omega arith))
 
 returns-5 : tie.Need-returns-5
 unfolding listed pick
 returns-5 c =
-    let none : c .before .before .before .args .keylenx ≡ 0 = omega arith in
-    let h : c .before .before .before .args .ikey < 256 ^ 8 = omega arith in
-    rw (none, c .if4 .left, mod-eq-of-lt h)
+    let a = c .before .before .before .args in
+    let none : a .keylenx ≡ 0 = omega arith in
+    let root : a .depth ≡ 0 = omega arith in
+    let h : a .ikey < 256 ^ 8 = omega arith in
+    rw (none, root, mod-eq-of-lt h)
 
 pub is-listed-spec : {M : Type 1} → statement M
 unfolding listed pick

@@ -17,7 +17,10 @@ returns-2 c = rw (passed _ _ (c .before .before .is-in-order .ensures) (c .befor
 
 returns-3 : tie.Need-returns-3
 unfolding inRange
-returns-3 c = rw (passed _ _ (c .before .before .is-in-order .ensures) (c .before .if1 .left), le-leb _ _ (c .if2 .left)) (up-to (c .before .before .before .before .args .ikey) (c .before .before .before .before .args .top))
+returns-3 c =
+    let a = c .before .before .before .before .args in
+    rw (passed _ _ (c .before .before .is-in-order .ensures) (c .before .if1 .left), le-leb _ _ (c .if2 .left))
+    (up-to (a .ikey) (a .top))
 
 pub is-placed-spec : {M : Type 1} → statement M
 unfolding inRange
