@@ -1,7 +1,7 @@
 #!/usr/bin/env python3
 """Writes the images that the repository's programs run on, from document 01's layout.
 
-    tools/images.py table  > crates/check_table/stdin     named images, each in order or with one fault
+    tools/images.py table  > crates/check_table/stdin     requests to check named images, each in order or with one fault
     tools/images.py sample NAME > samples/NAME.img        one image by name (sample list: the names)
 
 An image is made of Leaf and Internode records in post-order. `build` lays them out; a fault is one change to the bytes it
@@ -12,6 +12,7 @@ import sys
 
 TOP = 1 << 64
 IDENTITY = 0xEDCBA98765432100
+CHECK = 4  # the form of a request to crates/runner that checks an image and does not walk
 
 
 def ikey(part):
@@ -325,7 +326,8 @@ SAMPLES = {
 def main():
     if sys.argv[1:] == ["table"]:
         for name, image in table():
-            sys.stdout.buffer.write(bytes([len(name)]) + name.encode() + struct.pack("<I", len(image)) + image)
+            how = bytes([CHECK, 0, 0, 0, 0, 0])  # form, mode, kind; no cursor, no bound key
+            sys.stdout.buffer.write(bytes([len(name)]) + name.encode() + how + struct.pack("<I", len(image)) + image)
     elif sys.argv[1:] == ["sample", "list"]:
         print("\n".join(SAMPLES))
     elif len(sys.argv) == 3 and sys.argv[1] == "sample" and sys.argv[2] in SAMPLES:

@@ -2,8 +2,8 @@
 use mathlib.Core.Path.{_≡_}
 use lib.ListN.{length}
 use borrow.Author.Needs.{needs}
-use Rattle.examples.proofs.requests.Statement.{statement}
-use Rattle.examples.proofs.requests.Tie as tie
+use Rattle.runner.proofs.requests.Statement.{statement}
+use Rattle.runner.proofs.requests.Tie as tie
 
 abbrev Inv-loop : tie.InvT-loop
 Inv-loop image₀ left₀ image left = length image ≡ length image₀

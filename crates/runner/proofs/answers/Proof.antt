@@ -2,8 +2,8 @@
 use Prim.Native.Nat.{_-_}
 use lib.ListN.{length}
 use borrow.Author.Needs.{needs}
-use Rattle.examples.proofs.answers.Statement.{statement}
-use Rattle.examples.proofs.answers.Tie as tie
+use Rattle.runner.proofs.answers.Statement.{statement}
+use Rattle.runner.proofs.answers.Tie as tie
 
 abbrev Inv-loop : tie.InvT-loop
 Inv-loop name form image w₀ keys₀ moves₀ t13 w keys moves = Unit {0}
@@ -21,15 +21,17 @@ answers-spec =
     (λ c κs. search needs)
     (λ c κs. search needs)
     (λ c κs. search needs)
-    (λ c. search needs)
     (λ c κs. search needs)
     (λ c. search needs)
     (λ c κs. search needs)
     (λ c. search needs)
+    (λ c κs. search needs)
+    (λ c. search needs)
     (λ c. search needs)
     (λ c. search needs)
     (λ c. search needs)
     (λ c κs. search needs)
+    (λ c. search needs)
     (λ c. search needs)
     (λ c. search needs)
     (λ c. search needs)

@@ -1,0 +1,4 @@
+// Walks that the Rust has made, made again: every step's answer, moves and state are held to the Rust's own.
+fn main() {
+    runner::run();
+}
