@@ -130,6 +130,8 @@ def store(oracle, images, folder):
 
 
 def main():
+    if os.environ.get("PYTHONHASHSEED") != "0":     # sets of keys are gone through in one order, so that a seed gives one run
+        os.execve(sys.executable, [sys.executable] + sys.argv, dict(os.environ, PYTHONHASHSEED="0"))
     p = argparse.ArgumentParser(description=__doc__, formatter_class=argparse.RawDescriptionHelpFormatter)
     p.add_argument("--oracle", required=True)
     p.add_argument("--walks", type=int, default=10000)
