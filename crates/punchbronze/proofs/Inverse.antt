@@ -1,0 +1,77 @@
+-- THE THEOREM: the two conversions between walks and records are inverse. `record-inverse`: on every walk; `walk-inverse`: on every
+-- record that is a walk's. Lists of known length are written out, and then both compute. Assumes nothing.
+use mathlib.Core.Path.{_≡_, refl}
+use mathlib.Core.Bool.{true}
+use mathlib.Core.List.{List}
+use Prim.Native.Nat.{ℕ, zero, suc, _≤_}
+use native.Mathlib.Omega.{arith}
+use lib.Dec.{leb}
+use lib.ListN.{length, getD}
+use borrow.Author.Tests.{le-leb}
+use Rattle.base.specs.Pick.{pick}
+use Rattle.scan.specs.Machine.{emptyContext}
+use Rattle.scan.specs.declared.scan_state.Walk.{Walk}
+use Rattle.scan.specs.declared.scan_state.WalkState.{WalkState}
+use Rattle.scan.specs.declared.scan_state.WalkState.the-variants.{Start, Retry, FindNext, Ended}
+use Rattle.punchbronze.specs.Record.{stateNumber, stateOf, stackNumbers, numbersOf, entryAt, entries, readWalk, sized, isRecord}
+use Rattle.punchbronze.proofs.Tabled.{tabled, tabled-all}
+use Rattle.punchbronze.proofs.Told.{record-told}
+
+state-back : (s : WalkState) → stateOf (stateNumber s) ≡ s
+unfolding stateOf stateNumber pick
+state-back Start = refl
+state-back Retry = refl
+state-back FindNext = refl
+state-back Ended = refl
+
+state-fits : (s : WalkState) → leb (stateNumber s) 3 ≡ true
+unfolding stateNumber
+state-fits Start = refl
+state-fits Retry = refl
+state-fits FindNext = refl
+state-fits Ended = refl
+
+number-back : (n : ℕ) → n ≤ 3 → stateNumber (stateOf n) ≡ n
+unfolding stateOf stateNumber pick
+number-back zero h = refl
+number-back (suc zero) h = refl
+number-back (suc (suc zero)) h = refl
+number-back (suc (suc (suc zero))) h = refl
+number-back (suc (suc (suc (suc n)))) h = absurd (omega arith)
+
+-- The arrays of a walk have their lengths, and its kind is a byte.
+pub record Arrays (w : Walk) : Type 0 where
+  pub stack-is : length (w .stack) ≡ 31
+  pub buf-is : length (w .cursor .buf) ≡ 256
+  pub key-is : length (w .bound .key) ≡ 256
+  pub kind-fits : w .bound .kind ≤ 255
+
+-- the stack read back
+stack-back : (w : Walk) → Arrays w → entries (numbersOf w) 0 31 ≡ w .stack
+unfolding entries entryAt numbersOf stackNumbers tabled
+stack-back w a = tabled-all emptyContext (w .stack) 31 (a .stack-is)
+
+is-record : (w : Walk) → Arrays w → isRecord (numbersOf w) (w .cursor .buf) (w .bound .key) ≡ true
+unfolding isRecord sized numbersOf stackNumbers
+is-record w a = rw (a .buf-is, a .key-is, le-leb _ _ (a .kind-fits), state-fits (w .state))
+
+walk-back : (w : Walk) → Arrays w → readWalk (numbersOf w) (w .cursor .buf) (w .bound .key) ≡ w
+unfolding readWalk numbersOf
+walk-back w a = rw (stack-back w a, state-back (w .state))
+
+pub record-inverse : (w : Walk) → Arrays w
+    → (isRecord (numbersOf w) (w .cursor .buf) (w .bound .key) ≡ true)
+    × (readWalk (numbersOf w) (w .cursor .buf) (w .bound .key) ≡ w)
+record-inverse w a = (is-record w a, walk-back w a)
+
+pub walk-inverse : (numbers buf bound : List ℕ) → isRecord numbers buf bound ≡ true
+    → (numbersOf (readWalk numbers buf bound) ≡ numbers)
+    × (readWalk numbers buf bound .cursor .buf ≡ buf)
+    × (readWalk numbers buf bound .bound .key ≡ bound)
+unfolding readWalk numbersOf stackNumbers entries entryAt tabled
+walk-inverse numbers buf bound e =
+    let t = record-told numbers buf bound e in (
+      rw (number-back (getD numbers 10 0) (t .state-fits)) (tabled-all 0 numbers 73 (t .lengths .numbers-is)),
+      refl,
+      refl,
+    )

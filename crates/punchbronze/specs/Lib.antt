@@ -1,0 +1,4 @@
+-- The definition files of this crate.
+pub mod Record
+pub mod Laid
+pub mod Interface

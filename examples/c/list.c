@@ -1,0 +1,77 @@
+/* Lists the keys of an image: list FILE. Each line is the key's bytes in hex, and its value; the last line is the moves. */
+#include <stdio.h>
+#include <stdlib.h>
+
+#include "punchbronze.h"
+
+static uint8_t *read_file(const char *name, size_t *len)
+{
+    FILE *f = fopen(name, "rb");
+    if (!f) {
+        return NULL;
+    }
+    size_t room = 4096, n = 0, got;
+    uint8_t *bytes = malloc(room);
+    while (bytes && (got = fread(bytes + n, 1, room - n, f)) > 0) {
+        n += got;
+        if (n == room) {
+            room *= 2;
+            uint8_t *more = realloc(bytes, room);
+            if (!more) {
+                free(bytes);
+            }
+            bytes = more;
+        }
+    }
+    fclose(f);
+    *len = n;
+    return bytes;
+}
+
+int main(int argc, char **argv)
+{
+    size_t len = 0;
+    uint8_t *image = argc == 2 ? read_file(argv[1], &len) : NULL;
+    if (!image) {
+        fprintf(stderr, "usage: list FILE\n");
+        return 2;
+    }
+    uint64_t counts[3];
+    uint8_t code = pb_check(image, len, counts, 3);
+    if (code != 0) {
+        printf("refused %d\n", code);
+        free(image);
+        return 1;
+    }
+    printf("leaves %llu values %llu layers %llu\n", (unsigned long long)counts[0], (unsigned long long)counts[1],
+           (unsigned long long)counts[2]);
+
+    const uint8_t none[1] = {0};
+    pb_walk walk;
+    code = pb_place_from(image, len, none, 0, PB_UNBOUNDED, none, 0, walk.numbers, PB_NUMBERS, walk.buf, PB_BUFFER, walk.bound,
+                         PB_BUFFER);
+    uint64_t out[4] = {0, 0, 0, 0};
+    uint64_t moves = 0;
+    while (code == 0) {
+        code = pb_step(walk.numbers, PB_NUMBERS, walk.buf, PB_BUFFER, walk.bound, PB_BUFFER, image, len, out, 4);
+        if (code != 0) {
+            break;
+        }
+        moves += out[3];
+        if (out[0] == 0) {
+            break;
+        }
+        putchar('=');
+        for (uint64_t i = 0; i < out[1]; i++) {
+            printf("%02x", walk.buf[i]);
+        }
+        printf(" %llu\n", (unsigned long long)out[2]);
+    }
+    if (code != 0) {
+        printf("declined %d\n", code);
+    } else {
+        printf("moves %llu\n", (unsigned long long)moves);
+    }
+    free(image);
+    return code;
+}

@@ -1,0 +1,86 @@
+/* The forward scan of a Masstree image, for C.
+ *
+ * The library is `target/staticlib/libpunchbronze.a`, which `rt staticlib punchbronze` writes. Behind this header stand proved
+ * functions and nothing else: crates/punchbronze/src/lib.rt has their contracts, specs/Record.antt the record of a walk, and
+ * specs/Interface.antt what each call returns and leaves.
+ *
+ * A slice is a pointer and then a length, which counts elements and not bytes. What C must see to, since nothing can check it:
+ *   - a pointer is not NULL, is aligned for its type and is good for its length, also where that is 0;
+ *   - what a call writes (the slices that are not const) overlaps no other slice of the same call.
+ * Anything else may be passed: every image, every length, every record, however damaged, gets one of the numbers below.
+ *
+ * Every function returns 0 or the number of a decline. A call that is declined writes nothing, but for a placing with 1, 2, 11, 12
+ * or 13, which leaves the all-zero ended walk in the record. No function keeps a pointer, takes memory or fails otherwise.
+ */
+#ifndef PUNCHBRONZE_H
+#define PUNCHBRONZE_H
+
+#include <stddef.h>
+#include <stdint.h>
+
+#ifdef __cplusplus
+extern "C" {
+#endif
+
+#define PB_NUMBERS 73
+#define PB_BUFFER 256
+
+/* The kinds of a bound. */
+#define PB_UNBOUNDED 0
+#define PB_INCLUDED 1
+#define PB_EXCLUDED 2
+
+/* A walk between calls: a record that the caller keeps. Fill it by a placing, and hand it to steps.
+ *
+ * numbers: [0] image length, [1] root, [2] leaf, [3] position, [4] cursor offset, [5] cursor length, [6] ikey, [7] depth, [8] bound
+ * kind, [9] bound length, [10] state (0 start, 1 retry, 2 find next, 3 ended), and then for each i below 31 [11 + 2 * i] root and
+ * [12 + 2 * i] leaf of stack entry i.
+ * buf: the cursor's bytes; after a step that hands out a key, its first bytes are the key.
+ * bound: the bound's key. */
+typedef struct pb_walk {
+    uint64_t numbers[PB_NUMBERS];
+    uint8_t buf[PB_BUFFER];
+    uint8_t bound[PB_BUFFER];
+} pb_walk;
+
+/* Checks an image. Returns 0 where it is accepted, and then counts is { leaves, value slots, sub-layers }; else the number of the
+ * first fault: 1 and 2 for its length and trailer, 3 to 10 for its tree. counts stays as it was on a fault, and where its length is
+ * not 3. */
+uint8_t pb_check(const uint8_t *image, size_t image_len, uint64_t *counts, size_t counts_len);
+
+/* Places a walk above a cursor: it will hand out the keys past the cursor, in byte order, up to the bound. Returns 0; or, with the
+ * all-zero ended walk in the record, 1 or 2 for the image's length and trailer, 11 for a cursor of over 8 bytes, 12 for a kind over
+ * 2, 13 for a bound key of over 256 bytes (for kind 0 too); or 21 where the lengths of numbers, buf and bound are not 73, 256 and
+ * 256, and then the three stay as they were. An image that the check does not accept may be placed over; its steps can then be
+ * declined with 22 or 23. */
+uint8_t pb_place_above(const uint8_t *image, size_t image_len, const uint8_t *cursor, size_t cursor_len, uint8_t kind,
+                       const uint8_t *bound_key, size_t bound_key_len, uint64_t *numbers, size_t numbers_len, uint8_t *buf,
+                       size_t buf_len, uint8_t *bound, size_t bound_len);
+
+/* The same from the cursor on: a key that equals it is handed out too. From an empty cursor on is the whole image. */
+uint8_t pb_place_from(const uint8_t *image, size_t image_len, const uint8_t *cursor, size_t cursor_len, uint8_t kind,
+                      const uint8_t *bound_key, size_t bound_key_len, uint64_t *numbers, size_t numbers_len, uint8_t *buf,
+                      size_t buf_len, uint8_t *bound, size_t bound_len);
+
+/* One key further. Returns 0, and then out is { 1 for a key or 0 for none, key length, value, moves }, and numbers and buf are those
+ * of the walk after the step; the bound is not changed by a step. Else numbers, buf and out stay as they were, and the number is
+ *   21  the record is no walk's (lengths other than 73, 256 and 256, numbers[8] over 255, numbers[10] over 3), or it is out of range
+ *       (image length not image_len, depth over 31, offset not 8 * depth, offset plus length over 256, position over 15, kind over 2,
+ *       bound length over 256), or the length of out is not 4;
+ *   22  the image cannot be read on;
+ *   23  more moves than the image has bytes.
+ * A walk that a placing put over an image that the check accepts, and that only steps over that image have changed, meets none of
+ * the three where out has four places. */
+uint8_t pb_step(uint64_t *numbers, size_t numbers_len, uint8_t *buf, size_t buf_len, const uint8_t *bound, size_t bound_len,
+                const uint8_t *image, size_t image_len, uint64_t *out, size_t out_len);
+
+/* How many keys a walk above a cursor hands out. Returns 0, and then out is { count }; else the check's number, or 11, 12 or 13 as a
+ * placing. out stays as it was on a decline, and where its length is not 1. */
+uint8_t pb_tally(const uint8_t *image, size_t image_len, const uint8_t *cursor, size_t cursor_len, uint8_t kind,
+                 const uint8_t *bound_key, size_t bound_key_len, uint64_t *out, size_t out_len);
+
+#ifdef __cplusplus
+}
+#endif
+
+#endif
