@@ -152,3 +152,10 @@ module _ (image : List ℕ) where
       (omega (arith, o .to-trailer, o .long, ap (λ (p : Progress). p .place) q))
       (o .count ∙ sym (ap (λ (d : Counts). d .«value_slots») c))
       ∙ ap accepted c)
+
+-- THE FUNCTION. `check_image` (src/lib.rt) returns r with r ≡ check image, by its contract. So what it returns is an acceptance exactly
+-- where the image obeys the rules, and then with the tree's three numbers.
+pub check-image-accepts : (image : List ℕ) (r : Checked) → r ≡ check image
+    → ((c : Counts) → r ≡ accepted c → Obeys image × (c ≡ treeCounts (treeOf image)))
+    × (Obeys image → r ≡ accepted (treeCounts (treeOf image)))
+check-image-accepts image r e = (λ c a. accepted-obeys image c (sym e ∙ a), λ o. e ∙ obeys-accepted image o)
