@@ -1,40 +1,57 @@
 #!/usr/bin/env python3
 """Holds the compiled port against the Rust's own scan.
 
-    tests/differential/differential.py --oracle DIR [--walks N] [--seed S]        compares N walks
-    tests/differential/differential.py --oracle DIR --store crates/replay         writes a stored list of 400 walks
+    differential.py [--walks N] [--seed S] [--pack FILE]     compares N walks; FILE gets accepted images for guard.c
+    differential.py --store crates/replay                    writes a stored list of 400 walks
 
-DIR is a folder that has bin/oracle, the repository's scan made runnable over images, and images.py, its builder of random accepted
-images. The port is the proved program target/bin/replay (`rt check replay` builds it). Both get the same images, accepted and damaged,
-cursors and bounds, above the cursor; every answer is compared: key, value, moves, and the whole walk after each call (position, leaf,
-root, cursor, buffer, stack). Needs rustc for the oracle, and is not part of the gate.
+Needs target/oracle/bin/oracle, the Rust's scan made runnable over images (oracle/build.sh), and target/bin/replay, the proved
+program (`rt check replay`). Both get the same images, accepted and damaged, cursors and bounds; every answer is compared: key,
+value, moves, and the whole walk after each call (position, leaf, root, cursor, buffer, stack). Accepted are the images that the
+port's check takes with the numbers that the builder knows; over these the keys are held against the builder's own as well. `run`
+does all of it.
 """
 import argparse
+import collections
 import os
 import random
 import struct
 import subprocess
 import sys
 import tempfile
+import textwrap
+
+import shapes
+from shapes import Leaf, images
 
 TOP = os.path.dirname(os.path.dirname(os.path.dirname(os.path.abspath(__file__))))
-BATCH = 500          # requests for one run of the program
-STATES = 5           # its form that prints the walk after each step
+BATCH = 100                 # images for one run of the program
+MOST = 64000                # the longest image, a little under what the program reads
+CHECK, STATES = 4, 5        # the program's form that checks, and the one that prints the walk after each step
+ABOVE, FROM = 0, 1          # start modes
+PACKED, EACH = 400, 20      # images in a pack, or more where a shape has not so many in it
+
+Walk = collections.namedtuple("Walk", "image look mode cursor kind bound")      # look is None for a damaged image
 
 
 class Oracle:
-    def __init__(self, folder):
-        self.process = subprocess.Popen([os.path.join(folder, "bin", "oracle")], stdin=subprocess.PIPE, stdout=subprocess.PIPE, text=True)
-        self.image = tempfile.NamedTemporaryFile(suffix=".img")
+    def __init__(self):
+        program = os.path.join(TOP, "target", "oracle", "bin", "oracle")
+        self.process = subprocess.Popen([program], stdin=subprocess.PIPE, stdout=subprocess.PIPE, text=True)
+        self.file = tempfile.NamedTemporaryFile(suffix=".img")
+        self.image = None
 
-    def walk(self, image, cursor, kind, bound):
+    def walk(self, w):
         """The lines of one walk; a fault or a declined placing by its number alone. A walk over a damaged image may go round for
         ever, a key at a time: the program stops after as many keys as the image has bytes, and so does this."""
-        self.image.seek(0)
-        self.image.truncate()
-        self.image.write(image)
-        self.image.flush()
-        self.process.stdin.write(f"walk {self.image.name} {cursor.hex() or '-'} {kind} {bound.hex() or '-'} {len(image)}\n")
+        if w.image is not self.image:
+            self.image = w.image
+            self.file.seek(0)
+            self.file.truncate()
+            self.file.write(w.image)
+            self.file.flush()
+        verb = "from" if w.mode == FROM else "walk"
+        asked = f"{verb} {self.file.name} {w.cursor.hex() or '-'} {w.kind} {w.bound.hex() or '-'} {len(w.image)}\n"
+        self.process.stdin.write(asked)
         self.process.stdin.flush()
         lines = []
         while line := self.process.stdout.readline().rstrip("\n"):
@@ -42,25 +59,27 @@ class Oracle:
                 lines.append(" ".join(line.split()[:2]))
             elif not lines or not lines[-1].startswith(("fault", "error")):
                 lines.append(line)
-        if sum(line.startswith("key") for line in lines) == len(image):
+        if sum(line.startswith("key") for line in lines) == len(w.image):
             lines.pop()
         return lines
 
 
-def request(name, image, cursor, kind, bound):
+def request(name, form, w):
     name = name.encode()
-    return (bytes([len(name)]) + name + bytes([STATES, 0, kind, len(cursor)]) + cursor + struct.pack("<H", len(bound)) + bound
-            + struct.pack("<I", len(image)) + image)
+    return (bytes([len(name)]) + name + bytes([form, w.mode, w.kind, len(w.cursor)]) + w.cursor + struct.pack("<H", len(w.bound))
+            + w.bound + struct.pack("<I", len(w.image)) + w.image)
 
 
-def port(requests):
-    """The lines of each walk of the port."""
+def port(form, walks):
+    """What the port prints for each."""
     program = os.path.join(TOP, "target", "bin", "replay")
-    out = subprocess.run([program], input=b"".join(requests), stdout=subprocess.PIPE, check=True).stdout.decode()
-    return [part.split("\n") for part in out.split("\n\n")[:-1]]
+    requests = b"".join(request(f"w{i}", form, w) for i, w in enumerate(walks))
+    out = subprocess.run([program], input=requests, stdout=subprocess.PIPE, check=True).stdout.decode()
+    return out.split("\n")[:-1] if form == CHECK else [part.split("\n") for part in out.split("\n\n")[:-1]]
 
 
 def damage(r, image):
+    """Some bytes changed, anywhere before the trailer."""
     b = bytearray(image)
     for _ in range(r.randrange(1, 8)):
         at = r.randrange(8, len(b) - 32)
@@ -68,58 +87,188 @@ def damage(r, image):
     return bytes(b)
 
 
-def walks(r, images, most):
-    """Random walks: (image, damaged, cursor, kind, bound)."""
+def strike(r, image, look):
+    """Some fields of records changed, or the trailer's root."""
+    b = bytearray(image)
+    for _ in range(r.randrange(1, 4)):
+        record = r.choice(look.records)
+        offset = r.choice([r.choice(look.records).at, r.choice(look.records).at, record.at, 0, 1, 8, 9, len(b) - 32,
+                           8 * r.randrange(len(b) // 8), r.randrange(1 << 64)])
+        i = r.randrange(15)
+        if r.random() < 0.1:
+            struct.pack_into("<Q", b, len(b) - 32, offset)
+            continue
+        at, form, value = r.choice([
+            (0, "<I", record.version ^ 1 << r.randrange(32)),
+            (4, "<H", r.randrange(1 << 16)),
+            (8 + r.randrange(8), "<B", r.randrange(256)),
+            (16 + 8 * i, "<Q", r.choice([0, images.TOP - 1, r.randrange(images.TOP)])),
+            (136 + i, "<B", r.choice([0, 1, 7, 8, 9, 63, 64, 65, 127, 128, 255])),
+            (152 + 8 * i, "<Q", offset),
+            (272 + 8 * i, "<I", offset & 0xffffffff),
+            (276 + 8 * i, "<I", r.choice([0, 1, 8, 247, 248, 249, 256, 257, len(b), r.randrange(1 << 32)])),
+            (392, "<Q", offset),
+        ] if isinstance(record, Leaf) else [
+            (0, "<I", record.version ^ 1 << r.randrange(32)),
+            (4, "<B", r.choice([0, 1, 14, 15, 16, 255])),
+            (8 + 8 * i, "<Q", r.choice([0, images.TOP - 1, r.randrange(images.TOP)])),
+            (128 + 8 * i, "<Q", offset),
+        ])
+        struct.pack_into(form, b, record.at + at, value)
+    return bytes(b)
+
+
+def near(r, keys):
+    """A key, or one beside it."""
+    k = r.choice(keys)
+    return r.choice([k, k, k + b"\0", k[:-1], k[:-1] + bytes([r.randrange(256)])])[:256]
+
+
+def walks_of(r, image, look):
+    """Six walks: four over an accepted image, and two over damaged copies of it."""
+    keys = [k for k, _ in look.keys] or [b""]
+    for target in (image, image, image, image, damage(r, image), strike(r, image, look)):
+        cursor = r.choice([b"", near(r, keys)[:8], r.choice(keys)[:r.randrange(9)], images.random_key(r, 8)[:8]])
+        longest = near(r, keys).ljust(256, r.choice([b"\0", b"a", b"\xff"]))
+        bound = r.choice([near(r, keys), near(r, keys), images.random_key(r, 20), b"", longest])
+        yield Walk(target, look if target is image else None, r.choice([ABOVE, ABOVE, ABOVE, FROM]), cursor, r.randrange(3), bound)
+
+
+def due(w):
+    """The keys that a walk over an accepted image hands out, by the builder's own list."""
+    past = (lambda k: k >= w.cursor) if w.mode == FROM else (lambda k: k > w.cursor)
+    inside = (lambda k: True, lambda k: k <= w.bound, lambda k: k < w.bound)[w.kind]
+    return [k for k, live in w.look.keys if live and past(k) and inside(k)]
+
+
+def sorts(w, lines):
+    """What a walk counts as, in the summary."""
+    yield "accepted" if w.look else "damaged"
+    yield ("above", "from")[w.mode]
+    yield ("unbounded", "included", "excluded")[w.kind]
+    if w.look:
+        keys = {k for k, _ in w.look.keys}
+        yield ("cursor empty" if w.cursor == b"" else "cursor is a key" if w.cursor in keys
+               else "cursor begins a key" if any(k.startswith(w.cursor) for k in keys) else "cursor elsewhere")
+        if w.kind:
+            yield ("bound empty" if w.bound == b"" else "bound of 256 bytes" if len(w.bound) == 256
+                   else "bound is a key" if w.bound in keys else "bound between keys")
+    if any(" off 248 " in line for line in lines):
+        yield "came to depth 31"
+    if lines[-1].startswith("fault"):
+        yield lines[-1]
+
+
+class Comparison:
+    def __init__(self):
+        self.differ = self.keys = self.images = 0
+        self.lengths = set()
+        self.shapes, self.sorts, self.packed = collections.Counter(), collections.Counter(), collections.Counter()
+        self.pack = []
+
+    def differs(self, what, w):
+        self.differ += 1
+        if self.differ <= 5:
+            name = os.path.join(TOP, "target", "differential", f"differs-{self.differ}.img")
+            with open(name, "wb") as f:
+                f.write(w.image)
+            print(f"differs: image {name} mode {w.mode} cursor {w.cursor.hex() or '-'} kind {w.kind} bound {w.bound.hex() or '-'}")
+            print(f"  {what}")
+
+    def accepted(self, image, look):
+        """An image that the check took."""
+        self.images += 1
+        self.shapes.update(look.shapes)
+        wanted = [s for s in shapes.SHAPES if s in look.shapes and self.packed[s] < EACH]
+        if len(image) < 20000 and (wanted or len(self.pack) < PACKED):
+            self.packed.update(look.shapes)
+            self.pack.append((image, look))
+
+    def walk(self, w, got, want):
+        keys = [line.split()[1] for line in want if line.startswith("key")]
+        self.keys += len(keys)
+        self.lengths.update(len(k.strip("-")) // 2 for k in keys)
+        self.sorts.update(sorts(w, want))
+        if got != want:
+            a, b = next((a, b) for a, b in zip(want + [""], got + [""]) if a != b)
+            self.differs(f"Rust {a}\n  port {b}", w)
+        elif w.look and keys != [k.hex() or "-" for k in due(w)]:
+            self.differs("keys other than the builder's", w)
+
+    def summary(self, seed, count):
+        print(f"comparison with the Rust, seed {seed}: {count} walks, {self.keys} keys, {self.differ} differ")
+        lengths = sorted(self.lengths) or [0]
+        print(f"  keys of {len(lengths)} different lengths, {lengths[0]} to {lengths[-1]} bytes")
+        walks = "walks: " + ", ".join(f"{name} {n}" for name, n in sorted(self.sorts.items()))
+        print(textwrap.fill(walks, 120, initial_indent="  ", subsequent_indent="    "))
+        print(f"  accepted images: {self.images}; of these with")
+        for shape in shapes.SHAPES:
+            print(f"    {shape:24}{self.shapes[shape]:>8}{'' if self.shapes[shape] else '   MISSING'}")
+        print(f"  packed for guard.c: {len(self.pack)}, each shape in {min(self.packed[s] for s in shapes.SHAPES)} or more")
+
+
+def compare(count, seed, pack):
+    r = random.Random(seed)
+    oracle, c, done = Oracle(), Comparison(), 0
+    while done < count:
+        drawn = []
+        while len(drawn) < min(BATCH, -(-(count - done) // 6)):
+            root = shapes.tree(r)
+            image = images.write(root)
+            if len(image) <= MOST:
+                drawn.append(Walk(image, shapes.Look(root), ABOVE, b"", 0, b""))
+        batch = []
+        for i, (w, said) in enumerate(zip(drawn, port(CHECK, drawn), strict=True)):
+            if said == f"w{i} accepted {w.look.leaves} {w.look.values} {w.look.layers}":
+                c.accepted(w.image, w.look)
+                batch += walks_of(r, w.image, w.look)
+            else:
+                c.differs(f"the check says {said}", w)
+        if not batch:
+            break
+        batch = batch[:count - done]
+        for w, got in zip(batch, port(STATES, batch), strict=True):
+            c.walk(w, got, oracle.walk(w))
+        done += len(batch)
+    if pack:
+        with open(pack, "wb") as f:
+            for image, look in c.pack:
+                offsets = [n.at for n in look.records]
+                f.write(struct.pack(f"<QQ{len(offsets)}Q", len(image), len(offsets), *offsets) + image)
+    c.summary(seed, done)
+    return c.differ > 0 or not all(c.shapes[shape] for shape in shapes.SHAPES)
+
+
+def common_walks(r, most):
+    """Random walks over the common trees, two accepted to one damaged, above the cursor."""
     while True:
         root, keys = images.random_tree(r)
-        whole = images.write(root)
-        if len(whole) > most:
+        image = images.write(root)
+        if len(image) > most:
             continue
-        keys = list(keys) or [b""]
+        look, keys = shapes.Look(root), list(keys) or [b""]
         for damaged in (False, False, True):
             cursor = r.choice([b"", r.choice(keys)[:8], images.random_key(r, 8)[:8]])
             bound = r.choice([r.choice(keys), images.random_key(r, 20)])[:256]
-            yield damage(r, whole) if damaged else whole, damaged, cursor, r.choice([0, 0, 1, 2]), bound
+            target = damage(r, image) if damaged else image
+            yield Walk(target, None if damaged else look, ABOVE, cursor, r.choice([0, 0, 1, 2]), bound)
 
 
-def compare(oracle, images, count, seed):
-    r = random.Random(seed)
-    source = walks(r, images, 64000)
-    done = keys = faults = differ = 0
-    while done < count:
-        batch = [next(source) for _ in range(min(BATCH, count - done))]
-        got = port([request(f"w{i}", image, cursor, kind, bound) for i, (image, _, cursor, kind, bound) in enumerate(batch)])
-        for (image, damaged, cursor, kind, bound), lines in zip(batch, got):
-            want = oracle.walk(image, cursor, kind, bound)
-            keys += sum(line.startswith("key") for line in want)
-            faults += want[-1].startswith("fault")
-            if lines != want:
-                differ += 1
-                if differ <= 5:
-                    with open(f"differs-{differ}.img", "wb") as f:
-                        f.write(image)
-                    print(f"differs: cursor {cursor.hex() or '-'} kind {kind} bound {bound.hex() or '-'} image differs-{differ}.img")
-                    print(*[f"  Rust {a}\n  port {b}" for a, b in zip(want + [""], lines + [""]) if a != b][:1], sep="\n")
-        done += len(batch)
-    print(f"seed {seed}: {done} walks, {keys} keys, {faults} ended in a fault, {differ} differ")
-    return differ
-
-
-def store(oracle, images, folder):
+def store(folder):
     """400 walks over small images: 150 in one layer, 130 through layers, 90 that meet a fault, 30 damaged that do not."""
-    r = random.Random(20261115)
+    oracle = Oracle()
     want = {"plain": 150, "layers": 130, "fault": 90, "damaged": 30}
     requests, answers = [], []
-    for image, damaged, cursor, kind, bound in walks(r, images, 3000):
-        lines = oracle.walk(image, cursor, kind, bound)
-        if damaged:
-            sort = "fault" if lines[-1].startswith("fault") else "damaged"
-        else:
+    for w in common_walks(random.Random(20261115), 3000):
+        lines = oracle.walk(w)
+        if w.look:
             sort = "layers" if any(" off 0 " not in line for line in lines if " off " in line) else "plain"
+        else:
+            sort = "fault" if lines[-1].startswith("fault") else "damaged"
         if want[sort] == 0 or len(lines) > 40:
             continue
         want[sort] -= 1
-        requests.append(request(f"w{len(requests)}", image, cursor, kind, bound))
+        requests.append(request(f"w{len(requests)}", STATES, w))
         answers.append("\n".join(lines) + "\n\n")
         if not any(want.values()):
             break
@@ -133,18 +282,16 @@ def main():
     if os.environ.get("PYTHONHASHSEED") != "0":     # sets of keys are gone through in one order, so that a seed gives one run
         os.execve(sys.executable, [sys.executable] + sys.argv, dict(os.environ, PYTHONHASHSEED="0"))
     p = argparse.ArgumentParser(description=__doc__, formatter_class=argparse.RawDescriptionHelpFormatter)
-    p.add_argument("--oracle", required=True)
     p.add_argument("--walks", type=int, default=10000)
     p.add_argument("--seed", type=int, default=1)
+    p.add_argument("--pack")
     p.add_argument("--store")
     args = p.parse_args()
-    sys.path.insert(0, args.oracle)
-    import images
-    oracle = Oracle(args.oracle)
     if args.store:
-        store(oracle, images, args.store)
+        store(args.store)
     else:
-        sys.exit(compare(oracle, images, args.walks, args.seed) > 0)
+        os.makedirs(os.path.join(TOP, "target", "differential"), exist_ok=True)
+        sys.exit(compare(args.walks, args.seed, args.pack))
 
 
 if __name__ == "__main__":

@@ -2,7 +2,7 @@
 use key::Ordering;
 ghost use mathlib.Core.Path.{_≡_};
 ghost use Prim.Native.Nat.{_≤_};
-ghost use lib.ListN.{length};
+ghost use lib.ListN.{length, take};
 ghost use Rattle.cursor.specs.RangeBound.{contains, boundOf};
 
 // A bound as a walk keeps it: kind 0 unbounded, 1 included, 2 excluded, and the first `len` bytes of `key`.
@@ -44,4 +44,26 @@ pub fn contains(kind: u8, bound: &[u8], key: &[u8]) -> bool
         Ordering::Equal => kind == 1,
         Ordering::Greater => false,
     }
+}
+
+// The same of the first bytes of two buffers.
+pub fn contains_first<'a>(
+    kind: u8,
+    bound: &'a [u8; 256],
+    bound_len: usize,
+    buf: &'a [u8; 256],
+    len: usize,
+) -> bool
+    requires { ⌜ «bound_len» ≤ 256 ⌝ }
+    requires { ⌜ len ≤ 256 ⌝ }
+    ensures { λ r. ⌜ r ≡ contains kind (take «bound_len» (now (bound .entry))) (take len (now (buf .entry))) ⌝ }
+{
+    if kind == 0 {
+        return true;
+    }
+    contains(
+        kind,
+        key::part_of(bound, 0, bound_len),
+        key::part_of(buf, 0, len),
+    )
 }

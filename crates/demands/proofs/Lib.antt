@@ -13,6 +13,7 @@ pub mod Read
 pub mod Place
 pub mod Begin
 pub mod Run
+pub mod Tally
 pub mod Steps
 pub mod Whole
 pub mod Demand

@@ -1,9 +1,9 @@
 -- Steps of a walk, and every list of them. Proved: a step lent the walk's image says the head of what is left, and one
 -- lent another length changes nothing; hence what a list of steps says, and that its moves are no more than the
--- potential.
+-- potential. And one loop of moves counts as many keys as are left.
 use mathlib.Core.Path.{_≡_, refl, ap, sym, _∙_, subst}
 use mathlib.Core.List.{List, [], _∷_}
-use mathlib.Core.Bool.{Bool, true, false, true≢false, false≢true}
+use mathlib.Core.Bool.{Bool, true, false, not, true≢false, false≢true}
 use mathlib.Core.Logic.{inl, inr}
 use Prim.Native.Nat.{ℕ, _+_, _*_, _≤_}
 use native.Mathlib.Omega.{arith}
@@ -16,6 +16,7 @@ use Rattle.cursor.specs.declared.range_bound.RangeBound.{RangeBound}
 use Rattle.layering.proofs.Sieve.{front}
 use Rattle.layering.proofs.Walk.{Conf, over, rest, left, pot}
 use Rattle.scan.specs.Machine.{Ran, run, walkOk, scanState, lastIkey, isEnded, scanOf, walkOf, stepped, finished, step}
+use Rattle.scan.specs.Loop.{keysIn, keysAhead, keysLeft}
 use Rattle.scan.specs.declared.scan_state.WalkState.the-variants.{Ended}
 use Rattle.scan.specs.declared.scan_state.Walk.{Walk}
 use Rattle.scan.specs.declared.scan_state.Answer.the-variants.{Nothing, Declined}
@@ -24,6 +25,7 @@ use Rattle.lent.proofs.Same.{step-as}
 use Rattle.demands.specs.Demand.{Call, steps, Lent, Said, handsOut, declines, saidWith, said, movesOf, headSaid, tailOf, due}
 use Rattle.demands.proofs.Relation.{Fit, resumed, Rep}
 use Rattle.demands.proofs.Run.{Came, out, end, comes}
+use Rattle.demands.proofs.Tally.{counts}
 
 -- ANOTHER LENGTH is declined, and the walk is as it came.
 pub other-length : (w : Walk) (lent : List ℕ) → (length lent ≡ w .«image_len» → ⊥)
@@ -129,6 +131,23 @@ module _ (image : List ℕ) (B : RangeBound) where
     pays : (w : Walk) (c : Conf) → Walks w c → pot c ≤ length image → Paid c (step w image)
     unfolding step pick
     pays w c h k = rw (walk-ok w c h) (pays-in w c (h .same-length) (h .same-bound) (h .fit) k (h .stage))
+
+    -- ALL MOVES IN ONE LOOP: as many keys as are left
+    keys-in : (w : Walk) (c : Conf) → w .bound ≡ B → pot c ≤ length image → Stage w c
+        → pick (not (isEnded (w .state))) (keysAhead w image) 0 ≡ length (left (admitted B) c)
+    unfolding keysAhead left rest front pick isEnded
+    keys-in w c b k (ended e) = rw e
+    keys-in w c b k (going e rep) =
+        rw e
+        (subst
+        (λ (z : RangeBound). keysIn image (z .kind) (take (z .len) (z .key)) (length image) (scanOf w)
+        ≡ length (left (admitted B) c)) (sym b)
+        (counts image (B .kind) (take (B .len) (B .key)) (length image) (scanOf w) c rep k))
+
+    pub keys-left : (w : Walk) (c : Conf) → Walks w c → pot c ≤ length image
+        → keysLeft w image ≡ length (left (admitted B) c)
+    unfolding keysLeft
+    keys-left w c h k = rw (walk-ok w c h) (keys-in w c (h .same-bound) k (h .stage))
 
     -- EVERY LIST OF STEPS
     pub all-steps : (calls : List Call) → Lent image calls → (w : Walk) (c : Conf) → Walks w c

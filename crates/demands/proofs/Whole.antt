@@ -1,5 +1,6 @@
 -- From the placing to the row. Proved: what a placing that was taken says of its arguments; that the walk's bound
--- admits what its argument does; and that what is left of a fresh walk is the row that demand 3 speaks of.
+-- admits what its argument does; and that what is left of a fresh walk is the row that demand 3 speaks of. Hence every
+-- list of steps, and the count of one loop of moves.
 use mathlib.Core.Path.{_≡_, refl, ap, sym, _∙_}
 use mathlib.Core.List.{List, [], append-nil}
 use mathlib.Core.Bool.{Bool, true, false, not}
@@ -31,12 +32,13 @@ use Rattle.layering.proofs.Sieve.{front, front-sieve, ascending-sieve}
 use Rattle.layering.proofs.Bound.{contains-closed}
 use Rattle.layering.proofs.Walk.{retry, bottom, above, rest, left, climb, pot}
 use Rattle.scan.specs.Machine.{startState, placeFault, freshWalk, place, isEnded, scanOf}
+use Rattle.scan.specs.Loop.{keysLeft}
 use Rattle.scan.specs.declared.scan_state.StartMode.{StartMode}
 use Rattle.scan.specs.declared.scan_state.StartMode.the-variants.{Above, From}
 use Rattle.scan.specs.declared.scan_state.Placed.{Placed}
 use Rattle.demands.specs.Demand.{past, rowOf, Call, steps, Lent, said, movesOf, due}
 use Rattle.demands.proofs.Begin.{Begun, begin}
-use Rattle.demands.proofs.Steps.{admitted, Walks, going, all-steps}
+use Rattle.demands.proofs.Steps.{admitted, Walks, going, all-steps, keys-left}
 
 -- THE PLACING. It was taken: cursor, kind and bound are in their limits, and the walk is fresh.
 pub record Limits (cursor : List ℕ) (kind : ℕ) (bound : List ℕ) : Type 0 where
@@ -175,3 +177,12 @@ module _ (image : List ℕ) (b : (i : ℕ) → getD image i 0 < 256) (o : Obeys 
         (bound-length kind bound (lim .fits)) calls l (freshWalk image mode cursor kind bound)
         (retry [] (begun .to) bottom) walks (omega (arith, few-moves, moves-fit image o)) in
         (s .0 ∙ ap (due image calls) left-row, omega (arith, s .1, few-moves))
+
+    -- ALL ITS MOVES IN ONE LOOP: as many keys as the row has
+    pub fresh-keys : keysLeft (freshWalk image mode cursor kind bound) image
+        ≡ length (rowOf image mode cursor kind bound)
+    fresh-keys =
+        keys-left image (boundOf kind bound) (bound-kind kind bound (lim .kinds)) (bound-length kind bound (lim .fits))
+        (freshWalk image mode cursor kind bound) (retry [] (begun .to) bottom) walks
+        (omega (arith, few-moves, moves-fit image o))
+        ∙ ap length left-row

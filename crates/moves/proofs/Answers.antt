@@ -6,7 +6,6 @@ use Prim.Native.Nat.{ℕ, _+_, _≤_}
 use native.Mathlib.Omega.{arith}
 use borrow.Author.Tests.{not-true, not-false}
 use lib.ListN.{length, length-take, length-drop}
-use Rattle.base.specs.Pick.{pick}
 use Rattle.key.specs.Part.{part}
 use Rattle.node.specs.Layout.{suffixAt}
 use Rattle.node.specs.declared.permuter.Slot.{Slot}
@@ -16,9 +15,7 @@ use Rattle.search.specs.declared.traversal.Reached.{Reached}
 use Rattle.search.specs.declared.traversal.Reached.the-variants.{Leaf as ReachedLeaf}
 use Rattle.search.proofs.TraversalLaws.{in-image}
 use Rattle.search.proofs.Laws.{leaf-there, reach-leaf}
-use Rattle.moves.specs.Moves.{Taken, unlessDup, passIn, InBuffer}
-use Rattle.moves.specs.declared.forward_ctx.Duplicate.{Duplicate}
-use Rattle.moves.specs.declared.forward_ctx.Duplicate.the-variants.{No}
+use Rattle.moves.specs.Moves.{passIn, InBuffer}
 use Rattle.moves.specs.declared.scan_state.ScanState.{ScanState}
 use Rattle.moves.specs.declared.scan_state.ScanCtx.{ScanCtx}
 
@@ -48,16 +45,6 @@ module _ (image : List ℕ) (leaf : ℕ) where
     pub suffix-length : length (suffixBytes image leaf s) ≡ suffixAt image leaf s .len
     unfolding suffixBytes part
     suffix-length = simp (length-take, length-drop) (omega (arith, suffix-in))
-
--- The duplicate check where it is not due, and where it is and answers o.
-module _ (due : Bool) (x : Duplicate) (buf : List ℕ) (c : ScanCtx) (new : Taken) where
-  pub not-due : not due ≡ true → unlessDup (pick due x No) buf c new ≡ new
-  unfolding pick unlessDup
-  not-due f = rw (not-true due f)
-
-  pub is-due : not due ≡ false → (o v : Duplicate) → o ≡ x → o ≡ v → unlessDup (pick due x No) buf c new ≡ unlessDup v buf c new
-  unfolding pick
-  is-due f o v e h = rw (not-false due f, ← e, h)
 
 -- A move, and what it asks, by the state that the code matched.
 module _ (s v : ScanState) (e : s ≡ v) (c : ScanCtx) where

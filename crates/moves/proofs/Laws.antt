@@ -58,11 +58,12 @@ Before FindNext c = InRange (c .depth) c
 Before Down c = (0 < c .depth) × (c .depth ≤ 31) × InRange (c .depth - 1) c
 Before Up c = InRange (c .depth + 1) c
 
--- After a move, by its outcome. On Push the loop has yet to enter the layer; a fault ends the walk.
+-- After a move, by its outcome. On Push the loop has yet to enter the layer; after a key comes
+-- FindNext; a fault ends the walk.
 abbrev pub After : Outcome → ScanCtx → Type 0
 After Continue c = Between (c .state) c
 After (Push root) c = (c .state ≡ Down) × (c .depth < 31) × InRange (c .depth) c
-After (Emit value) c = InRange (c .depth) c
+After (Emit value) c = (c .state ≡ FindNext) × InRange (c .depth) c
 After Exhausted c = InRange (c .depth) c
 After Fault c = Unit {0}
 
@@ -119,7 +120,7 @@ module _ (c : ScanCtx) (k : CursorPlace) (place : k .offset ≡ 8 * c .depth) (d
 
     emits : (image : List ℕ) (kind : ℕ) (bound buf : List ℕ) (s : Slot) → Good (emitKey image kind bound buf c s k)
     unfolding emitKey onward
-    emits image kind bound buf s = pick-ind Good _ (λ t. goes-on _) (λ f. pick-ind Good _ (λ t. goes-on _) (λ f. goes-on _))
+    emits image kind bound buf s = pick-ind Good _ (λ t. goes-on _) (λ f. pick-ind Good _ (λ t. (refl, goes-on _)) (λ f. goes-on _))
 
 down : (c : ScanCtx) → Before Down c → Good (handleDown c)
 unfolding handleDown shiftClear
@@ -157,11 +158,11 @@ module _ (image : List ℕ) (c : ScanCtx) where
         (λ f. stands c (c .cursor) (h .place) (h .deep) (h .within) _ _ _ _ (λ p e. omega (arith, lower-within image _ (c .cursor) buf p e))))
 
 -- the buffer keeps its length
-stored : (buf : List ℕ) (offset ikey : ℕ) → length buf ≡ 256 → offset ≤ 248 → length (storeIkey buf offset ikey) ≡ 256
+pub stored : (buf : List ℕ) (offset ikey : ℕ) → length buf ≡ 256 → offset ≤ 248 → length (storeIkey buf offset ikey) ≡ 256
 unfolding storeIkey ikeyBytes digits
 stored buf offset ikey l h = rw (length-paste buf offset (ikeyBytes ikey) 8 (omega arith) (omega arith)) l
 
-stored-suffix : (buf : List ℕ) (offset : ℕ) (suffix : List ℕ) → length buf ≡ 256 → offset + 8 + length suffix ≤ 256
+pub stored-suffix : (buf : List ℕ) (offset : ℕ) (suffix : List ℕ) → length buf ≡ 256 → offset + 8 + length suffix ≤ 256
     → length (storeSuffix buf offset suffix) ≡ 256
 unfolding storeSuffix
 stored-suffix buf offset suffix l h = rw (length-paste buf (offset + 8) suffix (length suffix) (omega arith) (omega arith)) l

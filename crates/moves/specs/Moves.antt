@@ -92,6 +92,10 @@ unfoldable pub dupOf : List ℕ → List ℕ → ScanCtx → Slot → Duplicate
 dupOf image buf c s =
     byOrder (compareSlot (c .cursor) (ikeyAt image (c .leaf) s) (keylenxAt image (c .leaf) s)) No (dupLevel image buf c s) Yes
 
+-- The check is made where Retry, Down or Up asked for it.
+abbrev pub dupDue : List ℕ → List ℕ → ScanCtx → Slot → Duplicate
+dupDue image buf c s = pick (c .dup) (dupOf image buf c s) No
+
 -- A pass with the buffer after it. Only a slot that is taken changes the buffer.
 pub record Taken : Type 0 where
   pub pass : Pass
@@ -182,7 +186,7 @@ unfoldable pub findSlot : List ℕ → ℕ → List ℕ → List ℕ → ScanCtx
 findSlot image kind bound buf c s =
     pick (leb 15 (s .0)) (kept buf (faulted c))
     (pick (ltb (ikeyAt image (c .leaf) s) (c .last)) (kept buf (backToRetry c))
-    (unlessDup (pick (c .dup) (dupOf image buf c s) No) buf c (takeSlot image kind bound buf c s)))
+    (unlessDup (dupDue image buf c s) buf c (takeSlot image kind bound buf c s)))
 
 -- "FindNext", with the duplicate check where it is asked for; whatever the pass comes to, the check is spent.
 unfoldable pub findNext : List ℕ → ℕ → List ℕ → List ℕ → ScanCtx → Taken

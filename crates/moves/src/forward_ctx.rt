@@ -23,7 +23,7 @@ ghost use lib.ListN.{length};
 ghost use Rattle.node.specs.Layout.{InLeaf, InSlot, keylenxAt, suffixAt};
 ghost use Rattle.search.specs.Traversal.{leafThere};
 ghost use Rattle.search.specs.Helper.{suffixReadable};
-ghost use Rattle.moves.specs.Moves.{faulted, standing, findStart, findRetry, handleDown, handleUp, advanceLeaf, dupLevel, dupOf, onward, emitKey, takeInline, takeSuffixed, takeLayer, takeSlot, backToRetry, findSlot, findNext, MoveOk, passIn};
+ghost use Rattle.moves.specs.Moves.{faulted, standing, findStart, findRetry, handleDown, handleUp, advanceLeaf, dupLevel, dupOf, dupDue, onward, emitKey, takeInline, takeSuffixed, takeLayer, takeSlot, backToRetry, findSlot, findNext, MoveOk, passIn};
 
 // The duplicate check's answer: the slot is new to the walk; the cursor has come to it or passed it; it cannot be read.
 pub enum Duplicate {
@@ -200,8 +200,20 @@ pub fn duplicate_at(image: &[u8], buf: &[u8; 256], c: ScanCtx, slot: Slot) -> Du
     }
 }
 
+// The same where the check is due; else the slot is new.
+fn duplicate_due(image: &[u8], buf: &[u8; 256], c: ScanCtx, slot: Slot) -> Duplicate
+    requires { ⌜ InSlot (now image) (c .leaf) slot ⌝ }
+    requires { ⌜ c .cursor .offset + c .cursor .len ≤ 256 ⌝ }
+    ensures { λ r. ⌜ r ≡ dupDue (now (image .entry)) (now (buf .entry)) c slot ⌝ }
+{
+    if !c.dup {
+        return Duplicate::No;
+    }
+    duplicate_at(image, buf, c, slot)
+}
+
 // The walk one position on, with the key that the cursor has come to.
-fn go_on(c: ScanCtx, k: CursorPlace, last: u64) -> ScanCtx
+pub fn go_on(c: ScanCtx, k: CursorPlace, last: u64) -> ScanCtx
     requires { ⌜ c .position .0 ≤ 15 ⌝ }
     ensures { λ r. ⌜ r ≡ onward c k last ⌝ }
 {
@@ -399,10 +411,7 @@ fn find_slot(
     if leaf::ikey(image, c.leaf as usize, slot) < c.last {
         return retry_from(c);
     }
-    if !c.dup {
-        return take_slot(image, kind, bound, buf, c, slot);
-    }
-    let dup = duplicate_at(image, buf, c, slot);
+    let dup = duplicate_due(image, buf, c, slot);
     match dup {
         Duplicate::No => take_slot(image, kind, bound, buf, c, slot),
         Duplicate::Yes => {

@@ -2,4 +2,7 @@
 pub mod PlaceLaws
 pub mod WalkLaws
 pub mod MoveLaws
+pub mod FastAt
 pub mod LoopLaws
+pub mod RunLaws
+pub mod StepLaws

@@ -1,18 +1,31 @@
 -- The loop's pieces, as its functions have them: the layer above taken back, and the walk put together again. specs/Machine.antt says what the loop comes to.
-use mathlib.Core.Bool.{Bool, true, false}
+use mathlib.Core.Bool.{Bool, true, false, not, _&&_}
 use mathlib.Core.List.{List}
 use mathlib.Core.Path.{_≡_}
-use Prim.Native.Nat.{ℕ, _+_, _*_, _-_, _≤_, _<_}
+use Prim.Native.Nat.{ℕ, zero, suc, _+_, _-_}
+use lib.Dec.{eqb}
 use lib.ListN.{length, take}
+use Rattle.node.specs.declared.permuter.Position.{Position}
+use Rattle.cursor.specs.declared.cursor_key.CursorPlace.{CursorPlace}
 use Rattle.cursor.specs.declared.range_bound.RangeBound.{RangeBound}
-use Rattle.scan.specs.Machine.{run, scanOf, finished}
+use Rattle.base.specs.Pick.{pick}
+use Rattle.scan.specs.Machine.{Scan, move, Ran, run, walkOk, isEnded, scanOf, finished}
 use Rattle.scan.specs.declared.scan_state.LayerContext.{LayerContext}
 use Rattle.scan.specs.declared.scan_state.WalkState.{WalkState}
+use Rattle.scan.specs.declared.scan_state.WalkState.the-variants as walk
 use Rattle.scan.specs.declared.scan_state.Walk.{Walk}
+use Rattle.moves.specs.FastPath.{fastSlot}
+use Rattle.moves.specs.declared.fast_path.FastSlot.{FastSlot}
+use Rattle.moves.specs.declared.fast_path.FastSlot.the-variants.{Slow}
 use Rattle.moves.specs.declared.scan_state.ScanState.{ScanState}
 use Rattle.moves.specs.declared.scan_state.ScanState.the-variants.{Start, Retry, FindNext, Down, Up}
 use Rattle.moves.specs.declared.scan_state.ScanCtx.{ScanCtx}
+use Rattle.moves.specs.declared.scan_state.Outcome.{Outcome}
+use Rattle.moves.specs.declared.scan_state.Outcome.the-variants.{Continue, Push, Emit, Exhausted, Fault}
+use Rattle.scan.specs.declared.scan_state.Answer.{Answer}
+use Rattle.scan.specs.declared.scan_state.Answer.the-variants.{Key, Nothing, Declined}
 use Rattle.scan.specs.declared.scan_state.Stepped.{Stepped}
+use Rattle.scan.specs.declared.forward_ctx.Advanced.{Advanced}
 
 unfoldable pub isUp : ScanState → Bool
 isUp Start = false
@@ -49,3 +62,97 @@ walkWith imageLen bound state c buf stack = record {
 -- What a step comes to where 21 is not met and the walk is not ended.
 unfoldable pub advance : Walk → List ℕ → Stepped
 advance w image = finished w (run image (w .bound .kind) (take (w .bound .len) (w .bound .key)) (length image) 0 (scanOf w))
+
+-- THE LOOP ITSELF, which goes to the next key (a step), or past every key (`whole`: a count). How many keys are out after a move, n
+-- before it.
+unfoldable pub counted : Outcome → ℕ → ℕ
+counted Continue n = n
+counted (Push root) n = n
+counted (Emit value) n = n + 1
+counted Exhausted n = n
+counted Fault n = n
+
+-- What a run of moves comes to, with the keys that were out.
+pub record Run : Type 0 where
+  pub keys : ℕ
+  pub ran : Ran
+
+unfoldable pub afterBy : Bool → Outcome → ℕ → ℕ → Scan → Run → Run
+afterBy whole Continue keys moves s rest = rest
+afterBy whole (Push root) keys moves s rest = rest
+afterBy whole (Emit value) keys moves s rest =
+    pick whole rest (record { keys = keys; ran = record { answer = Key (s .ctx .cursor .offset + s .ctx .cursor .len) value; moves = moves; scan = s } })
+afterBy whole Exhausted keys moves s rest = record { keys = keys; ran = record { answer = Nothing; moves = moves; scan = s } }
+afterBy whole Fault keys moves s rest = record { keys = keys; ran = record { answer = Declined 22; moves = moves; scan = s } }
+
+unfoldable pub runBy : Bool → List ℕ → ℕ → List ℕ → ℕ → ℕ → ℕ → Scan → Run
+runBy whole image kind bound zero keys moves s = record { keys = keys; ran = record { answer = Declined 23; moves = moves; scan = s } }
+runBy whole image kind bound (suc n) keys moves s =
+    let m = move image kind bound s in
+    let k = counted (m .outcome) keys in
+    let rest = runBy whole image kind bound n k (moves + 1) (m .scan) in
+    afterBy whole (m .outcome) k (moves + 1) (m .scan) rest
+
+unfoldable pub allBy : Bool → Walk → List ℕ → Run
+allBy whole w image = runBy whole image (w .bound .kind) (take (w .bound .len) (w .bound .key)) (length image) 0 0 (scanOf w)
+
+unfoldable pub advanceBy : Bool → Walk → List ℕ → Advanced
+advanceBy whole w image = record { keys = allBy whole w image .keys; stepped = finished w (allBy whole w image .ran) }
+
+unfoldable pub advancedWith : ℕ → Answer → ℕ → Walk → Advanced
+advancedWith keys answer moves w = record { keys = keys; stepped = record { answer = answer; moves = moves; walk = w } }
+
+-- THE COUNT. How many keys n moves hand out before the end or 22.
+unfoldable pub countedOn : Outcome → ℕ → ℕ
+countedOn Continue rest = rest
+countedOn (Push root) rest = rest
+countedOn (Emit value) rest = suc rest
+countedOn Exhausted rest = 0
+countedOn Fault rest = 0
+
+unfoldable pub keysIn : List ℕ → ℕ → List ℕ → ℕ → Scan → ℕ
+keysIn image kind bound zero s = 0
+keysIn image kind bound (suc n) s =
+    let m = move image kind bound s in
+    let rest = keysIn image kind bound n (m .scan) in
+    countedOn (m .outcome) rest
+
+-- The same of a walk, in as many moves as the image has bytes.
+unfoldable pub keysAhead : Walk → List ℕ → ℕ
+keysAhead w image = keysIn image (w .bound .kind) (take (w .bound .len) (w .bound .key)) (length image) (scanOf w)
+
+-- None where the walk is declined with 21, or ended.
+unfoldable pub keysLeft : Walk → List ℕ → ℕ
+keysLeft w image = pick (walkOk w (length image) && not (isEnded (w .state))) (keysAhead w image) 0
+
+unfoldable pub endedWalk : Walk → Walk
+endedWalk w = record {
+  «image_len» = w .«image_len»;
+  root = w .root;
+  leaf = w .leaf;
+  position = w .position;
+  cursor = w .cursor;
+  depth = w .depth;
+  stack = w .stack;
+  bound = w .bound;
+  state = walk.Ended;
+}
+
+-- THE FAST PATH. A step takes it right after a key, and a count too, where no duplicate check is due and the cursor has the last ikey.
+unfoldable pub fastFor : WalkState → List ℕ → ℕ → Position → CursorPlace → FastSlot
+fastFor walk.Start image leaf p k = Slow
+fastFor walk.Retry image leaf p k = Slow
+fastFor walk.FindNext image leaf p k = fastSlot image leaf p k
+fastFor walk.Ended image leaf p k = Slow
+
+unfoldable pub isNext : ScanState → Bool
+isNext Start = false
+isNext Retry = false
+isNext FindNext = true
+isNext Down = false
+isNext Up = false
+
+unfoldable pub fastAt : Bool → List ℕ → ScanCtx → FastSlot
+fastAt whole image c =
+    pick (whole && (isNext (c .state) && (not (c .dup) && eqb (c .last) (c .cursor .ikey))))
+    (fastSlot image (c .leaf) (c .position) (c .cursor)) Slow

@@ -6,17 +6,21 @@ use crate::scan_state::Walk;
 use crate::scan_state::WalkState;
 use cursor::cursor_key::CursorKey;
 use cursor::cursor_key::CursorPlace;
+use cursor::range_bound;
 use cursor::range_bound::RangeBound;
+use moves::fast_path;
+use moves::fast_path::FastSlot;
 use moves::forward_ctx;
 use moves::scan_state::Outcome;
 use moves::scan_state::ScanCtx;
 use moves::scan_state::ScanState;
 ghost use mathlib.Core.Path.{_≡_};
 ghost use mathlib.Core.Bool.{true};
-ghost use Prim.Native.Nat.{_<_};
+ghost use Prim.Native.Nat.{_≤_, _<_};
 ghost use lib.ListN.{length};
+ghost use Rattle.search.specs.Traversal.{leafThere};
 ghost use Rattle.scan.specs.Machine.{scanState, lastIkey, entered, walkOk};
-ghost use Rattle.scan.specs.Loop.{isUp, poppedTo, walkWith, advance};
+ghost use Rattle.scan.specs.Loop.{isUp, isNext, fastAt, poppedTo, walkWith, advance, advanceBy, advancedWith, keysAhead};
 
 // The loop's state at the start of a call.
 fn scan_state(state: WalkState) -> ScanState
@@ -125,10 +129,65 @@ fn walk_of(
     }
 }
 
-// Moves until a key is out, the end, 22 or 23.
-pub fn advance_no_alloc(walk: Walk, image: &[u8]) -> Stepped
+fn is_next(state: ScanState) -> bool
+    ensures { λ r. ⌜ r ≡ isNext state ⌝ }
+{
+    match state {
+        ScanState::Start => false,
+        ScanState::Retry => false,
+        ScanState::FindNext => true,
+        ScanState::Down => false,
+        ScanState::Up => false,
+    }
+}
+
+// The fast slot of a walk that is gone through whole, right after a key.
+fn fast_at(image: &[u8], c: ScanCtx, there: bool, whole: bool) -> FastSlot
+    requires { ⌜ c .cursor .offset ≤ 248 ⌝ }
+    requires { ⌜ (there ≡ true → leafThere (now image) (c .leaf) ≡ true) ⌝ }
+    ensures { λ r. ⌜ r ≡ fastAt whole (now (image .entry)) c ⌝ }
+{
+    let state = c.state;
+    let position = c.position;
+    let k = c.cursor;
+    if !whole {
+        return FastSlot::Slow;
+    }
+    if !is_next(state) {
+        return FastSlot::Slow;
+    }
+    if c.dup {
+        return FastSlot::Slow;
+    }
+    if c.last != k.ikey {
+        return FastSlot::Slow;
+    }
+    fast_path::fast_slot(image, c.leaf, position, k, there)
+}
+
+// What the loop comes to: the keys that were out, and the step that the moves are.
+pub struct Advanced {
+    pub keys: usize,
+    pub stepped: Stepped,
+}
+
+fn came_to(keys: usize, answer: Answer, moves: usize, walk: Walk) -> Advanced
+    ensures { λ r. ⌜ r ≡ advancedWith keys answer moves walk ⌝ }
+{
+    Advanced {
+        keys: keys,
+        stepped: Stepped {
+            answer: answer,
+            moves: moves,
+            walk: walk,
+        },
+    }
+}
+
+// Moves until the next key is out, or where the whole walk is asked for past every key, to the end, 22 or 23.
+fn advance_by(walk: Walk, image: &[u8], whole: bool) -> Advanced
     requires { ⌜ walkOk walk (length (now image)) ≡ true ⌝ }
-    ensures { λ r. ⌜ r ≡ advance walk (now (image .entry)) ⌝ }
+    ensures { λ r. ⌜ r ≡ advanceBy whole walk (now (image .entry)) ⌝ }
 {
     let bound = walk.bound;
     let bound_key = bound.key;
@@ -155,67 +214,104 @@ pub fn advance_no_alloc(walk: Walk, image: &[u8]) -> Stepped
         last: last_ikey(state, cursor.ikey),
     };
     let mut moves = 0;
+    let mut keys = 0;
+    let mut there = false;
     while moves < image.len() {
         moves += 1;
-        let now = c.state;
-        if is_up(now) {
-            let depth = c.depth;
-            if depth == 0 {
-                return Stepped {
-                    answer: Answer::Nothing,
-                    moves: moves,
-                    walk: walk_of(walk.image_len, bound, WalkState::Ended, c, buf, stack),
-                };
-            }
-            let parent = stack[depth - 1];
-            stack[depth - 1] = LayerContext { root: 0, leaf: 0 };
-            c = pop_to(c, parent);
-        }
-        let p = forward_ctx::one_move(image, kind, end, &mut buf, c);
-        let outcome = p.outcome;
-        let next = p.ctx;
-        match outcome {
-            Outcome::Continue => {
+        let fast = fast_at(image, c, there, whole);
+        match fast {
+            FastSlot::At(slot) => {
+                let cursor = c.cursor;
+                let k = fast_path::store_key(image, c.leaf as usize, slot, &mut buf, cursor);
+                let next = forward_ctx::go_on(c, k, k.ikey);
+                if !range_bound::contains(kind, end, key::part_of(&buf, 0, k.offset + k.len)) {
+                    let after = walk_of(walk.image_len, bound, WalkState::Ended, next, buf, stack);
+                    return came_to(keys, Answer::Nothing, moves, after);
+                }
+                keys += 1;
                 c = next;
+                there = true;
             }
-            Outcome::Push(root) => {
-                let depth = next.depth;
-                stack[depth] = LayerContext {
-                    root: next.root,
-                    leaf: next.leaf,
-                };
-                c = enter(next, root);
-            }
-            Outcome::Emit(value) => {
-                let k = next.cursor;
-                return Stepped {
-                    answer: Answer::Key {
-                        len: k.offset + k.len,
-                        value: value,
-                    },
-                    moves: moves,
-                    walk: walk_of(walk.image_len, bound, WalkState::FindNext, next, buf, stack),
-                };
-            }
-            Outcome::Exhausted => {
-                return Stepped {
-                    answer: Answer::Nothing,
-                    moves: moves,
-                    walk: walk_of(walk.image_len, bound, WalkState::Ended, next, buf, stack),
-                };
-            }
-            Outcome::Fault => {
-                return Stepped {
-                    answer: Answer::Declined(22),
-                    moves: 0,
-                    walk: walk,
-                };
+            FastSlot::Slow => {
+                there = false;
+                let now = c.state;
+                if is_up(now) {
+                    let depth = c.depth;
+                    if depth == 0 {
+                        let next = walk_of(walk.image_len, bound, WalkState::Ended, c, buf, stack);
+                        return came_to(keys, Answer::Nothing, moves, next);
+                    }
+                    let parent = stack[depth - 1];
+                    stack[depth - 1] = LayerContext { root: 0, leaf: 0 };
+                    c = pop_to(c, parent);
+                }
+                let p = forward_ctx::one_move(image, kind, end, &mut buf, c);
+                let outcome = p.outcome;
+                let next = p.ctx;
+                match outcome {
+                    Outcome::Continue => {
+                        c = next;
+                    }
+                    Outcome::Push(root) => {
+                        let depth = next.depth;
+                        stack[depth] = LayerContext {
+                            root: next.root,
+                            leaf: next.leaf,
+                        };
+                        c = enter(next, root);
+                    }
+                    Outcome::Emit(value) => {
+                        keys += 1;
+                        if !whole {
+                            let k = next.cursor;
+                            let len = k.offset + k.len;
+                            let after = walk_of(
+                                walk.image_len,
+                                bound,
+                                WalkState::FindNext,
+                                next,
+                                buf,
+                                stack,
+                            );
+                            return came_to(keys, Answer::Key { len, value }, moves, after);
+                        }
+                        c = next;
+                    }
+                    Outcome::Exhausted => {
+                        let after = walk_of(
+                            walk.image_len,
+                            bound,
+                            WalkState::Ended,
+                            next,
+                            buf,
+                            stack,
+                        );
+                        return came_to(keys, Answer::Nothing, moves, after);
+                    }
+                    Outcome::Fault => {
+                        return came_to(keys, Answer::Declined(22), 0, walk);
+                    }
+                }
             }
         }
     }
-    Stepped {
-        answer: Answer::Declined(23),
-        moves: 0,
-        walk: walk,
-    }
+    came_to(keys, Answer::Declined(23), 0, walk)
+}
+
+// Moves until a key is out, the end, 22 or 23.
+pub fn advance_no_alloc(walk: Walk, image: &[u8]) -> Stepped
+    requires { ⌜ walkOk walk (length (now image)) ≡ true ⌝ }
+    ensures { λ r. ⌜ r ≡ advance walk (now (image .entry)) ⌝ }
+{
+    let a = advance_by(walk, image, false);
+    a.stepped
+}
+
+// How many keys the moves of a walk hand out, as many moves as the image has bytes.
+pub fn count_keys(walk: Walk, image: &[u8]) -> usize
+    requires { ⌜ walkOk walk (length (now image)) ≡ true ⌝ }
+    ensures { λ r. ⌜ r ≡ keysAhead walk (now (image .entry)) ⌝ }
+{
+    let a = advance_by(walk, image, true);
+    a.keys
 }

@@ -1,7 +1,7 @@
 // The walk over a resting image (the Rust's scan_state.rs and forward_ctx.rs).
 //
-// Interface: `place`, `place_above` and `step`, which take anything and have no `requires`, and the types of scan_state. The
-// moves in forward_ctx serve the step: they ask what its test of the walk's numbers (21) gives.
+// Interface: `place`, `place_above`, `step` and `count_keys`, which take anything and have no `requires`, and the types of scan_state.
+// The loop in forward_ctx and the fast path serve them: they ask what the test of the walk's numbers (21) gives.
 use crate::scan_state::Answer;
 use crate::scan_state::LayerContext;
 use crate::scan_state::Placed;
@@ -11,12 +11,20 @@ use crate::scan_state::Walk;
 use crate::scan_state::WalkState;
 use cursor::cursor_key;
 use cursor::cursor_key::CursorKey;
+use cursor::cursor_key::CursorPlace;
 use cursor::range_bound;
 use cursor::range_bound::RangeBound;
+use moves::fast_path;
+use moves::fast_path::FastSlot;
+use node::leaf;
 use node::permuter::Position;
 use node::trailer;
 ghost use mathlib.Core.Path.{_≡_};
+ghost use mathlib.Core.Bool.{true};
+ghost use Prim.Native.Nat.{_≤_};
+ghost use lib.ListN.{length};
 ghost use Rattle.scan.specs.Machine.{zeroWalk, placeFault, startState, freshWalk, place, placeAbove, walkOk, step};
+ghost use Rattle.scan.specs.Loop.{endedWalk, fastFor, keysLeft};
 
 pub mod forward_ctx;
 pub mod scan_state;
@@ -138,17 +146,52 @@ fn is_walk_ok(walk: Walk, n: usize) -> bool
     b.len <= 256
 }
 
-// One key further. Declined with 21, 22 or 23, and then the walk as it came.
-pub fn step(walk: Walk, image: &[u8]) -> Stepped
+// The fast slot of a walk that has handed out a key.
+fn fast_for(
+    state: WalkState,
+    image: &[u8],
+    leaf: u64,
+    position: Position,
+    k: CursorPlace,
+) -> FastSlot
+    requires { ⌜ k .offset ≤ 248 ⌝ }
+    ensures { λ r. ⌜ r ≡ fastFor state (now (image .entry)) leaf position k ⌝ }
+{
+    match state {
+        WalkState::Start => FastSlot::Slow,
+        WalkState::Retry => FastSlot::Slow,
+        WalkState::FindNext => fast_path::fast_slot(image, leaf, position, k, false),
+        WalkState::Ended => FastSlot::Slow,
+    }
+}
+
+// A walk, ended where it stands.
+fn end_walk(walk: Walk) -> Walk
+    ensures { λ r. ⌜ r ≡ endedWalk walk ⌝ }
+{
+    let position = walk.position;
+    let cursor = walk.cursor;
+    let stack = walk.stack;
+    let bound = walk.bound;
+    let ended = WalkState::Ended;
+    Walk {
+        image_len: walk.image_len,
+        root: walk.root,
+        leaf: walk.leaf,
+        position: position,
+        cursor: cursor,
+        depth: walk.depth,
+        stack: stack,
+        bound: bound,
+        state: ended,
+    }
+}
+
+// A step by the loop, of a walk whose numbers are in range.
+fn step_slow(walk: Walk, image: &[u8]) -> Stepped
+    requires { ⌜ walkOk walk (length (now image)) ≡ true ⌝ }
     ensures { λ r. ⌜ r ≡ step walk (now (image .entry)) ⌝ }
 {
-    if !is_walk_ok(walk, image.len()) {
-        return Stepped {
-            answer: Answer::Declined(21),
-            moves: 0,
-            walk: walk,
-        };
-    }
     let state = walk.state;
     match state {
         WalkState::Ended => Stepped {
@@ -159,5 +202,76 @@ pub fn step(walk: Walk, image: &[u8]) -> Stepped
         WalkState::Start => forward_ctx::advance_no_alloc(walk, image),
         WalkState::Retry => forward_ctx::advance_no_alloc(walk, image),
         WalkState::FindNext => forward_ctx::advance_no_alloc(walk, image),
+    }
+}
+
+// One key further. Declined with 21, 22 or 23, and then the walk as it came. A step that takes the next slot's key, as most do, is
+// made on the walk in place, with no other copy of it; the loop makes the others.
+pub fn step(mut walk: Walk, image: &[u8]) -> Stepped
+    ensures { λ r. ⌜ r ≡ step walk (now (image .entry)) ⌝ }
+{
+    if !is_walk_ok(walk, image.len()) {
+        return Stepped {
+            answer: Answer::Declined(21),
+            moves: 0,
+            walk: walk,
+        };
+    }
+    let state = walk.state;
+    let position = walk.position;
+    let k = CursorPlace {
+        offset: walk.cursor.offset,
+        len: walk.cursor.len,
+        ikey: walk.cursor.ikey,
+    };
+    let fast = fast_for(state, image, walk.leaf, position, k);
+    match fast {
+        FastSlot::Slow => step_slow(walk, image),
+        FastSlot::At(slot) => {
+            let leaf = walk.leaf as usize;
+            let stored = fast_path::store_key(image, leaf, slot, &mut walk.cursor.buf, k);
+            let len = stored.offset + stored.len;
+            let next = Position(position.0 + 1);
+            walk.position = next;
+            walk.cursor.len = stored.len;
+            walk.cursor.ikey = stored.ikey;
+            if range_bound::contains_first(
+                walk.bound.kind,
+                &walk.bound.key,
+                walk.bound.len,
+                &walk.cursor.buf,
+                len,
+            ) {
+                return Stepped {
+                    answer: Answer::Key {
+                        len: len,
+                        value: leaf::value(image, leaf, slot),
+                    },
+                    moves: 1,
+                    walk: walk,
+                };
+            }
+            Stepped {
+                answer: Answer::Nothing,
+                moves: 1,
+                walk: end_walk(walk),
+            }
+        }
+    }
+}
+
+// How many keys the steps of a walk have yet to hand out, over an accepted image; none where the walk is declined with 21, or ended.
+pub fn count_keys(walk: Walk, image: &[u8]) -> usize
+    ensures { λ r. ⌜ r ≡ keysLeft walk (now (image .entry)) ⌝ }
+{
+    if !is_walk_ok(walk, image.len()) {
+        return 0;
+    }
+    let state = walk.state;
+    match state {
+        WalkState::Ended => 0,
+        WalkState::Start => forward_ctx::count_keys(walk, image),
+        WalkState::Retry => forward_ctx::count_keys(walk, image),
+        WalkState::FindNext => forward_ctx::count_keys(walk, image),
     }
 }

@@ -16,12 +16,12 @@ use Rattle.verify.specs.declared.Counts.{Counts}
 use Rattle.verify.specs.declared.Checked.{Checked}
 use Rattle.verify.specs.declared.Checked.the-variants as checked
 use Rattle.scan.specs.Machine.{placeFault, place, placeAbove}
+use Rattle.scan.specs.Loop.{keysLeft}
 use Rattle.scan.specs.declared.scan_state.StartMode.the-variants.{Above}
 use Rattle.scan.specs.declared.scan_state.Placed.{Placed}
 use Rattle.demands.specs.Demand.{rowOf}
 use Rattle.survey.specs.declared.Tallied.the-variants.{Counted, Declined}
 use Rattle.survey.specs.Tally.{tallyChecked, tally}
-use Rattle.survey.specs.Counting.{keysFrom}
 use Rattle.survey.proofs.Counting.{row-counted}
 
 -- An image that the check accepts has no fault in its heading.
@@ -68,10 +68,10 @@ module _ (image : List ℕ) (cursor : List ℕ) (kind : ℕ) (bound : List ℕ) 
 
       -- the walk is counted
       pub counts : ((i : ℕ) → getD image i 0 < 256) → ((i : ℕ) → getD cursor i 0 < 256) → p .code ≡ 0
-          → (n : ℕ) → n ≡ keysFrom (length image) (p .walk) image → Counted n ≡ tally image cursor kind bound
+          → (n : ℕ) → n ≡ keysLeft (p .walk) image → Counted n ≡ tally image cursor kind bound
       unfolding accepted placeAbove pick
       counts b bc z n h =
-          let w : keysFrom (length image) (p .walk) image ≡ length (rowOf image Above cursor kind bound) =
+          let w : keysLeft (p .walk) image ≡ length (rowOf image Above cursor kind bound) =
           rw g
           (row-counted image b (record { leaves = l; «value_slots» = v; «sub_layers» = s }) (sym e ∙ f) Above cursor bc kind
           bound (ap (λ (q : Placed). q .code) (sym g) ∙ z)) in

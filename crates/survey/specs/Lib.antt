@@ -1,4 +1,3 @@
 pub mod Sample
 pub mod Examples
 pub mod Tally
-pub mod Counting

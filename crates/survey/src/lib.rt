@@ -1,13 +1,9 @@
 // Tally (01, module 9), and the worked examples of 01 as a table (specs/Examples.antt).
 //
 // Interface: `tally`, which takes anything and has no `requires`, and its answer `Tallied`.
-use scan::scan_state::Answer;
-use scan::scan_state::Walk;
 use verify::Checked;
 ghost use mathlib.Core.Path.{_≡_};
-ghost use lib.ListN.{length};
 ghost use Rattle.survey.specs.Tally.{tally};
-ghost use Rattle.survey.specs.Counting.{keysFrom};
 
 // The tally's answer: how many keys there are, or 01's number.
 pub enum Tallied {
@@ -32,32 +28,7 @@ pub fn tally(image: &[u8], cursor: &[u8], kind: u8, bound: &[u8]) -> Tallied
             if code != 0 {
                 return Tallied::Declined(code);
             }
-            Tallied::Counted(count_keys(placed.walk, image))
+            Tallied::Counted(scan::count_keys(placed.walk, image))
         }
     }
-}
-
-// The keys that steps of a walk hand out before the first answer that is no key, of as many steps as the image has bytes.
-fn count_keys(walk: Walk, image: &[u8]) -> usize
-    ensures { λ r. ⌜ r ≡ keysFrom (length (now (image .entry))) walk (now (image .entry)) ⌝ }
-{
-    let mut at = walk;
-    let mut count = 0;
-    while count < image.len() {
-        let s = scan::step(at, image);
-        let answer = s.answer;
-        match answer {
-            Answer::Key { len: _, value: _ } => {
-                at = s.walk;
-                count += 1;
-            }
-            Answer::Nothing => {
-                return count;
-            }
-            Answer::Declined(_) => {
-                return count;
-            }
-        }
-    }
-    count
 }

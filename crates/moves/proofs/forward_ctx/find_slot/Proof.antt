@@ -4,7 +4,6 @@ use borrow.Author.Tests.{le-ltb, lt-ltb, le-leb, lt-leb}
 use borrow.Author.Needs.{needs}
 use Rattle.base.specs.Pick.{pick}
 use Rattle.moves.specs.Moves.{kept, unlessDup, findSlot}
-use Rattle.moves.proofs.Answers.{not-due, is-due}
 use Rattle.moves.proofs.forward_ctx.find_slot.Statement.{statement}
 use Rattle.moves.proofs.forward_ctx.find_slot.Tie as tie
 
@@ -17,20 +16,16 @@ unfolding findSlot kept pick
 returns-2 c = rw (lt-leb _ _ (c .before .before .before .before .if1 .left), ← c .before .before .before .ikey .ensures, lt-ltb _ _ (c .before .if2 .taken)) (c .retry-from .ensures, refl)
 
 returns-3 : tie.Need-returns-3
-unfolding findSlot pick
-returns-3 c = rw (lt-leb _ _ (c .before .before .before .before .before .before .before .if1 .left), ← c .before .before .before .before .before .before .ikey .ensures, le-ltb _ _ (c .before .before .before .before .if2 .left), not-due _ _ _ _ _ (c .before .before .if3 .taken)) (c .take-slot .ensures)
+unfolding findSlot unlessDup pick
+returns-3 c = rw (lt-leb _ _ (c .before .before .before .before .before .before .before .before .before .if1 .left), ← c .before .before .before .before .before .before .before .before .ikey .ensures, le-ltb _ _ (c .before .before .before .before .before .before .if2 .left), ← c .before .before .before .before .duplicate-due .ensures, c .before .before .enum-told .given .1) (c .take-slot .ensures)
 
 returns-4 : tie.Need-returns-4
-unfolding findSlot unlessDup pick
-returns-4 c = rw (lt-leb _ _ (c .before .before .before .before .before .before .before .before .before .before .before .if1 .left), ← c .before .before .before .before .before .before .before .before .before .before .ikey .ensures, le-ltb _ _ (c .before .before .before .before .before .before .before .before .if2 .left), is-due (c .before .before .before .before .before .before .before .before .before .before .before .before .before .before .args .c .dup) _ _ _ _ (c .before .before .before .before .before .before .if3 .left) _ _ (c .before .before .before .before .duplicate-at .ensures) (c .before .before .enum-told .given .1)) (c .take-slot2 .ensures)
+unfolding findSlot unlessDup kept pick
+returns-4 c = rw (lt-leb _ _ (c .before .before .before .before .before .before .before .before .before .if1 .left), ← c .before .before .before .before .before .before .before .before .ikey .ensures, le-ltb _ _ (c .before .before .before .before .before .before .if2 .left), ← c .before .before .before .before .duplicate-due .ensures, c .before .before .enum-told2 .given .1) (rw (c .go-on .ensures), refl)
 
 returns-5 : tie.Need-returns-5
 unfolding findSlot unlessDup kept pick
-returns-5 c = rw (lt-leb _ _ (c .before .before .before .before .before .before .before .before .before .before .before .if1 .left), ← c .before .before .before .before .before .before .before .before .before .before .ikey .ensures, le-ltb _ _ (c .before .before .before .before .before .before .before .before .if2 .left), is-due (c .before .before .before .before .before .before .before .before .before .before .before .before .before .before .args .c .dup) _ _ _ _ (c .before .before .before .before .before .before .if3 .left) _ _ (c .before .before .before .before .duplicate-at .ensures) (c .before .before .enum-told2 .given .1)) (rw (c .go-on .ensures), refl)
-
-returns-6 : tie.Need-returns-6
-unfolding findSlot unlessDup kept pick
-returns-6 c = rw (lt-leb _ _ (c .before .before .before .before .before .before .before .before .before .before .if1 .left), ← c .before .before .before .before .before .before .before .before .before .ikey .ensures, le-ltb _ _ (c .before .before .before .before .before .before .before .if2 .left), is-due (c .before .before .before .before .before .before .before .before .before .before .before .before .before .args .c .dup) _ _ _ _ (c .before .before .before .before .before .if3 .left) _ _ (c .before .before .before .duplicate-at .ensures) (c .before .enum-told3 .given .1)) (c .fault-at2 .ensures, refl)
+returns-5 c = rw (lt-leb _ _ (c .before .before .before .before .before .before .before .before .if1 .left), ← c .before .before .before .before .before .before .before .ikey .ensures, le-ltb _ _ (c .before .before .before .before .before .if2 .left), ← c .before .before .before .duplicate-due .ensures, c .before .enum-told3 .given .1) (c .fault-at2 .ensures, refl)
 
 pub find-slot-spec : {M : Type 1} → statement M
 find-slot-spec =
@@ -42,14 +37,12 @@ find-slot-spec =
     (λ c κs. search needs)
     returns-2
     (λ c κs. search needs)
+    (λ c. search needs)
+    (λ c κs. search needs)
+    (λ c. search needs)
+    (λ c κs. search needs)
+    (λ c. search needs)
+    (λ c κs. search needs)
     returns-3
-    (λ c κs. search needs)
-    (λ c. search needs)
-    (λ c κs. search needs)
-    (λ c. search needs)
-    (λ c κs. search needs)
-    (λ c. search needs)
-    (λ c κs. search needs)
     returns-4
-    returns-5
-    returns-6)
+    returns-5)

@@ -1,7 +1,11 @@
--- The loop of the tally: what it counts, over any walk and any bytes.
-use mathlib.Core.List.{List}
+-- What the timed loops count, over any bytes.
+use mathlib.Core.Bool.{not}
+use mathlib.Core.List.{List, []}
 use Prim.Native.Nat.{ℕ, zero, suc}
-use Rattle.scan.specs.Machine.{step}
+use lib.Dec.{eqb}
+use lib.ListN.{length}
+use Rattle.base.specs.Pick.{pick}
+use Rattle.scan.specs.Machine.{placeAbove, step}
 use Rattle.scan.specs.declared.scan_state.Walk.{Walk}
 use Rattle.scan.specs.declared.scan_state.Answer.{Answer}
 use Rattle.scan.specs.declared.scan_state.Answer.the-variants.{Key, Nothing, Declined}
@@ -19,3 +23,10 @@ keysFrom (suc n) w image =
     let s = step w image in
     let rest = keysFrom n (s .walk) image in
     countKey (s .answer) rest
+
+-- The same of a walk above the empty cursor, unbounded, and of as many steps as the image has bytes; 0 where the placing is
+-- declined.
+unfoldable pub keysOf : List ℕ → ℕ
+keysOf image =
+    let p = placeAbove image [] 0 [] in
+    pick (not (eqb (p .code) 0)) 0 (keysFrom (length image) (p .walk) image)

@@ -1,0 +1,184 @@
+/* The five functions as guard.c calls them: each at both sides over equal bytes, its answer held to what document 01 says of it. A
+ * call must return and leave the same at both sides, its number must be one that 01 has for it, and where it is declined, what it
+ * was lent must stay as it was. */
+#ifndef CALLS_H
+#define CALLS_H
+
+#include "lend.h"
+#include "punchbronze.h"
+
+/* What a placing or a tally is asked for. */
+struct ask {
+    uint8_t cursor[16], key[264], kind;
+    size_t cursor_len, key_len;
+};
+
+/* 01's numbers 11 to 13, or 0. */
+static int ask_fault(const struct ask *a)
+{
+    return a->cursor_len > 8 ? 11 : a->kind > 2 ? 12 : a->key_len > 256 ? 13 : 0;
+}
+
+static void must_keep(const struct ask *a, const uint8_t *cursor, const uint8_t *key)
+{
+    must(memcmp(cursor, a->cursor, a->cursor_len) == 0 && memcmp(key, a->key, a->key_len) == 0, "cursor or bound key was written");
+}
+
+/* A walk's record, with the lengths that it is lent with; longer than a record, so that these can be too long. */
+struct walk {
+    uint64_t numbers[80];
+    uint8_t buf[264], bound[264];
+    size_t numbers_len, buf_len, bound_len;
+};
+
+static int is_sized(const struct walk *w)
+{
+    return w->numbers_len == PB_NUMBERS && w->buf_len == PB_BUFFER && w->bound_len == PB_BUFFER;
+}
+
+static void blank(struct walk *w)
+{
+    memset(w->numbers, 0, PB_NUMBERS * sizeof *w->numbers);
+    memset(w->buf, 0, PB_BUFFER);
+    memset(w->bound, 0, PB_BUFFER);
+}
+
+/* How often each number was met. */
+
+enum { CHECKS, PLACINGS, STEPS, TALLIES, CALLS };
+
+static ull met[CALLS][256];
+
+static int check(uint64_t counts[4], size_t counts_len)
+{
+    uint64_t after[SIDES][4];
+    uint8_t code[SIDES];
+    for (int side = 0; side < SIDES; side++) {
+        uint64_t *c = lend(OUT, side, counts, counts_len * sizeof *counts);
+        code[side] = pb_check(lent[side], image_len, c, counts_len);
+        memcpy(after[side], counts, sizeof after[side]);
+        memcpy(after[side], c, counts_len * sizeof *c);
+    }
+    int early = heading();
+    must(code[0] == code[1] && memcmp(after[0], after[1], sizeof after[0]) == 0, "two checks differ");
+    must(early ? code[0] == early : code[0] == 0 || (code[0] >= 3 && code[0] <= 10), "the check's number");
+    must((code[0] == 0 && counts_len == 3) || memcmp(after[0], counts, sizeof after[0]) == 0, "a declined check wrote");
+    memcpy(counts, after[0], sizeof after[0]);
+    met[CHECKS][code[0]]++;
+    return code[0];
+}
+
+/* The record that a placing has to leave, by its number. */
+static void placed(struct walk *w, int code, int from, const struct ask *a)
+{
+    if (code == 21) {
+        return;
+    }
+    blank(w);
+    w->numbers[10] = 3;
+    if (code != 0) {
+        return;
+    }
+    w->numbers[0] = image_len;
+    w->numbers[1] = word(image + image_len - TRAILER);
+    w->numbers[5] = a->cursor_len;
+    for (size_t i = 0; i < 8; i++) {
+        w->numbers[6] = w->numbers[6] << 8 | (i < a->cursor_len ? a->cursor[i] : 0);
+    }
+    w->numbers[8] = a->kind;
+    w->numbers[9] = a->kind ? a->key_len : 0;
+    w->numbers[10] = from ? 0 : 1;
+    memcpy(w->buf, a->cursor, a->cursor_len);
+    memcpy(w->bound, a->key, a->kind ? a->key_len : 0);
+}
+
+static int place(struct walk *w, int from, const struct ask *a)
+{
+    int due = !is_sized(w) ? 21 : heading() ? heading() : ask_fault(a);
+    struct walk want = *w, after = *w;
+    placed(&want, due, from, a);
+    for (int side = 0; side < SIDES; side++) {
+        uint8_t *cursor = lend(CURSOR, side, a->cursor, a->cursor_len), *key = lend(KEY, side, a->key, a->key_len);
+        uint64_t *numbers = lend(NUMBERS, side, w->numbers, w->numbers_len * sizeof *numbers);
+        uint8_t *buf = lend(BUF, side, w->buf, w->buf_len), *bound = lend(BOUND, side, w->bound, w->bound_len);
+        int code = (from ? pb_place_from : pb_place_above)(lent[side], image_len, cursor, a->cursor_len, a->kind, key, a->key_len,
+                                                           numbers, w->numbers_len, buf, w->buf_len, bound, w->bound_len);
+        memcpy(after.numbers, numbers, w->numbers_len * sizeof *numbers);
+        memcpy(after.buf, buf, w->buf_len);
+        memcpy(after.bound, bound, w->bound_len);
+        must(code == due, "the placing's number");
+        must(memcmp(&after, &want, sizeof after) == 0, "the record after a placing");
+        must_keep(a, cursor, key);
+    }
+    *w = after;
+    met[PLACINGS][due]++;
+    return due;
+}
+
+/* Whether 01's number 21 is due: no walk's record, or one out of range. */
+static int is_foreign(const struct walk *w, size_t out_len)
+{
+    const uint64_t *n = w->numbers;
+    if (out_len != 4 || !is_sized(w)) {
+        return 1;
+    }
+    return n[10] > 3 || n[0] != image_len || n[7] > 31 || n[4] != 8 * n[7] || n[5] > 256 - n[4] || n[3] > 15 || n[8] > 2
+           || n[9] > 256;
+}
+
+static int step(struct walk *w, uint64_t out[8], size_t out_len)
+{
+    struct walk after[SIDES] = {*w, *w};
+    uint64_t said[SIDES][8];
+    uint8_t code[SIDES];
+    for (int side = 0; side < SIDES; side++) {
+        uint64_t *numbers = lend(NUMBERS, side, w->numbers, w->numbers_len * sizeof *numbers);
+        uint8_t *buf = lend(BUF, side, w->buf, w->buf_len), *bound = lend(BOUND, side, w->bound, w->bound_len);
+        uint64_t *o = lend(OUT, side, out, out_len * sizeof *o);
+        code[side] = pb_step(numbers, w->numbers_len, buf, w->buf_len, bound, w->bound_len, lent[side], image_len, o, out_len);
+        memcpy(after[side].numbers, numbers, w->numbers_len * sizeof *numbers);
+        memcpy(after[side].buf, buf, w->buf_len);
+        memcpy(after[side].bound, bound, w->bound_len);
+        memcpy(said[side], out, sizeof said[side]);
+        memcpy(said[side], o, out_len * sizeof *o);
+    }
+    must(code[0] == code[1], "two steps return different numbers");
+    must(memcmp(&after[0], &after[1], sizeof *w) == 0 && memcmp(said[0], said[1], sizeof said[0]) == 0, "two steps differ");
+    must(memcmp(after[0].bound, w->bound, sizeof w->bound) == 0, "a step changed the bound");
+    must(code[0] == 0 || (code[0] >= 21 && code[0] <= 23), "the step's number");
+    must((code[0] == 21) == is_foreign(w, out_len), "21 at the wrong place");
+    if (code[0] != 0) {
+        must(memcmp(&after[0], w, sizeof *w) == 0 && memcmp(said[0], out, sizeof said[0]) == 0, "a declined step wrote");
+    } else {
+        const uint64_t *s = said[0];
+        must(s[0] <= 1 && s[1] <= 256 && s[3] <= image_len, "what a step said");
+        must(s[0] == 1 || (s[1] == 0 && s[2] == 0 && after[0].numbers[10] == 3), "none, and the walk is not ended");
+        must(w->numbers[10] != 3 || (s[0] == 0 && s[3] == 0 && memcmp(&after[0], w, sizeof *w) == 0), "an ended walk moved");
+    }
+    *w = after[0];
+    memcpy(out, said[0], sizeof said[0]);
+    met[STEPS][code[0]]++;
+    return code[0];
+}
+
+static int tally(int checked, const struct ask *a, uint64_t out[2], size_t out_len)
+{
+    int due = checked ? checked : ask_fault(a);
+    uint64_t after[SIDES][2];
+    for (int side = 0; side < SIDES; side++) {
+        uint8_t *cursor = lend(CURSOR, side, a->cursor, a->cursor_len), *key = lend(KEY, side, a->key, a->key_len);
+        uint64_t *o = lend(OUT, side, out, out_len * sizeof *o);
+        int code = pb_tally(lent[side], image_len, cursor, a->cursor_len, a->kind, key, a->key_len, o, out_len);
+        memcpy(after[side], out, sizeof after[side]);
+        memcpy(after[side], o, out_len * sizeof *o);
+        must(code == due, "the tally's number");
+        must((due == 0 && out_len == 1) || memcmp(after[side], out, sizeof after[side]) == 0, "a declined tally wrote");
+        must_keep(a, cursor, key);
+    }
+    must(memcmp(after[0], after[1], sizeof after[0]) == 0, "two tallies differ");
+    memcpy(out, after[0], sizeof after[0]);
+    met[TALLIES][due]++;
+    return due;
+}
+
+#endif

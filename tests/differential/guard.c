@@ -1,0 +1,407 @@
+/* Feeds the C interface whole and damaged images, and walks that were altered by hand.
+ *
+ *     guard PACK SEED ROUNDS          every slice lies against a page that may not be touched
+ *     guard PACK SEED ROUNDS heap     every slice is a block of its own, of its exact size, for valgrind
+ *
+ * PACK has accepted images with the offsets of their records (differential.py --pack). Every call is made twice: once with all
+ * slices ending where a forbidden page begins, once with all beginning where one ends (lend.h); calls.h says what is asked of an
+ * answer. The seed fixes all random choices; a failure names its round.
+ */
+#define _DEFAULT_SOURCE
+#include <signal.h>
+
+#include "calls.h"
+
+/* Keys to ask for: some that a walk handed out, some beside them. */
+
+static uint8_t seen[256];
+static size_t seen_len;
+
+static size_t draw_key(uint8_t *at, size_t most)
+{
+    size_t front = below(2) ? seen_len : 0, more = ONE_OF(0, 0, 0, 1, 8, 9, 255, 256, 257);
+    size_t len = front + more <= most ? front + more : most;
+    fill(at, len);
+    memcpy(at, seen, front < len ? front : len);
+    return len;
+}
+
+/* One that a placing takes, or, where faults are asked for, now and then one that it declines. */
+static void draw_ask(struct ask *a, int faults)
+{
+    int bad = faults ? (int)below(12) : 12;
+    a->cursor_len = draw_key(a->cursor, bad == 0 ? sizeof a->cursor : 8);
+    a->kind = (uint8_t)(bad == 1 ? ONE_OF(3, 4, 128, 255) : below(3));
+    a->key_len = draw_key(a->key, bad == 2 ? sizeof a->key : 256);
+}
+
+static int key_order(const uint8_t *a, size_t a_len, const uint8_t *b, size_t b_len)
+{
+    int d = memcmp(a, b, a_len < b_len ? a_len : b_len);
+    return d ? d : a_len < b_len ? -1 : a_len > b_len;
+}
+
+/* A walk over an accepted image to its end: its keys ascend past the start and lie in the bound, it is never declined, and its
+ * moves are at most leaves + value slots + 4 * sub-layers + 2. How many keys. */
+static uint64_t walk_whole(int from, const struct ask *a, const uint64_t counts[4])
+{
+    struct walk w = {.numbers_len = PB_NUMBERS, .buf_len = PB_BUFFER, .bound_len = PB_BUFFER};
+    uint64_t out[8] = {0}, keys = 0, moves = 0;
+    uint8_t last[256];
+    size_t last_len = a->cursor_len;
+    memcpy(last, a->cursor, last_len);
+    must(place(&w, from, a) == 0, "a placing over an accepted image");
+    for (;;) {
+        must(step(&w, out, 4) == 0, "a step over an accepted image was declined");
+        moves += out[3];
+        if (out[0] == 0) {
+            break;
+        }
+        int order = key_order(last, last_len, w.buf, out[1]), end = key_order(w.buf, out[1], a->key, a->key_len);
+        must(order < 0 || (from && keys == 0 && order == 0), "keys do not ascend");
+        must(a->kind == 0 || end < 0 || (a->kind == 1 && end == 0), "a key past the bound");
+        last_len = out[1];
+        memcpy(last, w.buf, last_len);
+        if (below(++keys) == 0) {
+            seen_len = last_len;
+            memcpy(seen, last, last_len);
+        }
+    }
+    must(moves <= counts[0] + counts[1] + 4 * counts[2] + 2, "more moves than 01 allows");
+    must(step(&w, out, 4) == 0 && out[0] == 0 && out[3] == 0, "an ended walk");
+    return keys;
+}
+
+static void whole(const uint64_t counts[4])
+{
+    struct ask a;
+    uint64_t count[2] = {0, 0};
+    draw_ask(&a, 0);
+    must(tally(0, &a, count, 1) == 0 && count[0] == walk_whole(0, &a, counts), "the tally is not the number of keys");
+    uint64_t keys = walk_whole(1, &a, counts);
+    must(keys == count[0] || keys == count[0] + 1, "from a cursor and above it");
+}
+
+/* The accepted images. */
+struct picture {
+    uint64_t len, records, *at;
+    uint8_t *bytes;
+};
+
+static struct picture *pictures;
+static size_t picture_count;
+
+static void read_pack(const char *name)
+{
+    FILE *f = fopen(name, "rb");
+    must(f != NULL, "no pack");
+    uint64_t head[2];
+    while (fread(head, sizeof head, 1, f) == 1) {
+        pictures = realloc(pictures, (picture_count + 1) * sizeof *pictures);
+        must(pictures != NULL, "no memory");
+        struct picture *p = &pictures[picture_count++];
+        *p = (struct picture){head[0], head[1], malloc(head[1] * sizeof *p->at), malloc(head[0])};
+        must(p->at && p->bytes, "no memory");
+        must(fread(p->at, sizeof *p->at, p->records, f) == p->records && fread(p->bytes, 1, p->len, f) == p->len, "a short pack");
+    }
+    must(picture_count > 0, "an empty pack");
+    fclose(f);
+}
+
+/* Damage. */
+
+/* An offset that a field may be set to: mostly a record's. */
+static uint64_t draw_offset(const struct picture *p)
+{
+    uint64_t real = p->at[below(p->records)], inside = below(p->len), wild = any();
+    return ONE_OF(real, real, real, real + 8, real - 8, real + 1, 0, 1, 8, 9, inside, inside & ~7ull, p->len, p->len - TRAILER,
+                  p->len - TRAILER - 256, p->len - TRAILER - 400, wild, wild & 0xffffffff, ~0ull, ~0ull - 399, 1ull << 63);
+}
+
+/* One field of a record, or of the trailer, or any bit. */
+static void damage(const struct picture *p)
+{
+    uint8_t *r = image + p->at[below(p->records)];
+    uint64_t i = below(16), slot = below(15), offset = draw_offset(p), wild = any();
+    uint8_t bit = (uint8_t)(1 << below(8));
+    int leaf = r[3] >> 7;
+    switch (below(leaf ? 12 : 8)) {
+    case 0:
+        image[below(p->len)] ^= bit;
+        break;
+    case 1: /* root, key count, stated length, edition */
+        put(image + p->len - TRAILER + 8 * below(4), offset, 8);
+        break;
+    case 2: /* version */
+        r[below(4)] ^= bit;
+        break;
+    case 3: /* an ikey */
+        put(r + (leaf ? 16 : 8) + 8 * slot, ONE_OF(0, 1, ~0ull, wild), 8);
+        break;
+    case 4:
+    case 5: /* next, or a child */
+        put(r + (leaf ? 392 : 128 + 8 * i), offset, 8);
+        break;
+    case 6: /* live mask, or key count */
+        put(r + 4, leaf ? wild : ONE_OF(0, 1, 14, 15, 16, 255), leaf ? 2 : 1);
+        break;
+    case 7: /* a byte of the permutation, or of a separator */
+        put(r + (leaf ? 8 + below(8) : 8 + 8 * slot), wild, 1);
+        break;
+    case 8: /* keylenx */
+        r[136 + slot] = (uint8_t)ONE_OF(0, 1, 7, 8, 9, 63, 64, 65, 127, 128, 129, 255);
+        break;
+    case 9: /* value, or a layer's root */
+        put(r + 152 + 8 * slot, offset, 8);
+        break;
+    case 10: /* a suffix's offset */
+        put(r + 272 + 8 * slot, offset, 4);
+        break;
+    default: /* its length */
+        put(r + 276 + 8 * slot, ONE_OF(0, 1, 8, 247, 248, 249, 256, 257, p->len, 0xffffffff, wild), 4);
+    }
+}
+
+/* Trailer words that pass numbers 1 and 2. */
+static void mend(size_t len)
+{
+    if (len >= TRAILER) {
+        put(image + len - 16, len, 8);
+        put(image + len - 8, 1, 8);
+    }
+}
+
+/* Walks by hand. */
+
+static void lengths(struct walk *w)
+{
+    w->numbers_len = below(16) ? PB_NUMBERS : ONE_OF(0, 1, 72, 74, 80);
+    w->buf_len = below(16) ? PB_BUFFER : ONE_OF(0, 1, 255, 257, 264);
+    w->bound_len = below(16) ? PB_BUFFER : ONE_OF(0, 1, 255, 257, 264);
+}
+
+/* A value for one number of a record. */
+static uint64_t draw_number(const uint64_t *n, size_t i, const struct picture *p)
+{
+    uint64_t wild = any(), small = below(32), offset = draw_offset(p), here = image_len;
+    if (below(40) == 0) {
+        return wild;
+    }
+    switch (i) {
+    case 0:
+        return ONE_OF(here, here, here, here, here, here, here + 8, here - 8, 0);
+    case 3:
+        return ONE_OF(small & 15, small & 15, small & 15, 0, 14, 15, 16);
+    case 4:
+        return 8 * n[7] + ONE_OF(0, 0, 0, 0, 0, 0, 1, ~0ull, 8);
+    case 5:
+        return ONE_OF(small & 15, small & 15, 8, 9, 255 - n[4], 256 - n[4], 257 - n[4], 256);
+    case 6:
+        return ONE_OF(wild, 0, ~0ull, word(image + (wild % (p->len - 8))));
+    case 7:
+        return ONE_OF(small, small, small, 0, 0, 1, 30, 31, 32, 33);
+    case 8:
+        return ONE_OF(0, 0, 1, 1, 2, 2, 0, 1, 2, 3, 255, 256);
+    case 9:
+        return ONE_OF(small, small, 0, 255, 256, 257);
+    case 10:
+        return ONE_OF(0, 1, 2, 0, 1, 2, 2, 2, 3, 4);
+    default:
+        return offset;
+    }
+}
+
+static void alter(struct walk *w, const struct picture *p)
+{
+    int all = below(2) == 0;
+    for (size_t n = all ? PB_NUMBERS : 1 + below(4); n > 0; n--) {
+        size_t i = all ? PB_NUMBERS - n : below(2) ? below(11) : below(PB_NUMBERS);
+        w->numbers[i] = draw_number(w->numbers, i, p);
+        if (i == 7) {
+            w->numbers[4] = draw_number(w->numbers, 4, p);
+        }
+    }
+    if (all) {
+        w->numbers[4] = draw_number(w->numbers, 4, p);
+        w->numbers[5] = draw_number(w->numbers, 5, p);
+        fill(w->bound, below(257));
+    }
+    if (below(2)) {
+        fill(w->buf, below(257));
+    }
+}
+
+/* Rounds. */
+
+/* Anything over the image that is shown: check, tally, a placing and some steps. */
+static void everything(void)
+{
+    struct ask a;
+    struct walk w;
+    uint64_t counts[4], out[8];
+    fill(counts, sizeof counts);
+    fill(out, sizeof out);
+    fill(w.numbers, sizeof w.numbers);
+    fill(w.buf, sizeof w.buf);
+    fill(w.bound, sizeof w.bound);
+    lengths(&w);
+    draw_ask(&a, 1);
+    int checked = check(counts, below(8) ? 3 : below(5));
+    tally(checked, &a, out, below(8) ? 1 : ONE_OF(0, 2));
+    if (place(&w, (int)below(2), &a) == 0) {
+        for (int n = 0; n < 40 && step(&w, out, below(32) ? 4 : below(9)) == 0 && out[0] == 1; n++) {
+        }
+    }
+    if (checked == 0 && check(counts, 3) == 0) {
+        whole(counts);
+    }
+}
+
+static void altered_walk(const struct picture *p)
+{
+    struct walk w = {.numbers_len = PB_NUMBERS, .buf_len = PB_BUFFER, .bound_len = PB_BUFFER};
+    struct ask a;
+    uint64_t out[8];
+    fill(out, sizeof out);
+    draw_ask(&a, 0);
+    place(&w, (int)below(2), &a);
+    for (uint64_t n = below(12); n > 0 && step(&w, out, 4) == 0; n--) {
+    }
+    alter(&w, p);
+    for (uint64_t n = 1 + below(8); n > 0; n--) {
+        if (step(&w, out, below(16) ? 4 : below(9)) != 0) {
+            alter(&w, p);
+        }
+        if (below(8) == 0) {
+            lengths(&w);
+        }
+    }
+}
+
+enum { WHOLE, DAMAGED, LENGTHS, BYTES, ALTERED, SORTS };
+
+static int one_round(void)
+{
+    const struct picture *p = &pictures[below(picture_count)];
+    uint64_t counts[4] = {0}, len = p->len;
+    int sort = (int)ONE_OF(WHOLE, WHOLE, DAMAGED, DAMAGED, DAMAGED, LENGTHS, BYTES, ALTERED, ALTERED, ALTERED);
+    memcpy(image, p->bytes, len);
+    switch (sort) {
+    case WHOLE:
+        show(len);
+        must(check(counts, 3) == 0, "an accepted image is declined");
+        whole(counts);
+        break;
+    case DAMAGED:
+        for (uint64_t n = 1 + below(4); n > 0; n--) {
+            damage(p);
+        }
+        show(len);
+        everything();
+        break;
+    case LENGTHS: {
+        uint64_t few = below(1001), by = below(2) ? few : few & ~7ull;
+        len = ONE_OF(by, len + by, by < len ? len - by : 0, 440 + by, 432, 440);
+        if (len > p->len) {
+            fill(image + p->len, len - p->len);
+        }
+        if (below(2)) {
+            mend(len);
+        }
+        show(len);
+        everything();
+        break;
+    }
+    case BYTES:
+        len = below(2) ? below(1001) : 8 * below(500);
+        fill(image, len);
+        if (below(4)) {
+            mend(len);
+        }
+        if (len >= 440 && below(4)) {
+            put(image + len - TRAILER, 8 * below(len / 8 - 50), 8);
+            put(image + word(image + len - TRAILER), ONE_OF(0, 1ull << 31), 4);
+        }
+        show(len);
+        everything();
+        break;
+    default:
+        for (uint64_t n = below(2) ? below(4) : 0; n > 0; n--) {
+            damage(p);
+        }
+        show(len);
+        altered_walk(p);
+    }
+    unchanged();
+    return sort;
+}
+
+/* Lengths at 01's limits, with zero bytes before the trailer. */
+static void limits(void)
+{
+    static const size_t at[] = {0, 8, 32, 432, 440, 441, 448, LONGEST - 8, LONGEST, LONGEST + 1, LONGEST + 8};
+    memset(image, 0, sizeof image);
+    for (size_t i = 0; i < sizeof at / sizeof *at; i++) {
+        mend(at[i]);
+        show(at[i]);
+        everything();
+        unchanged();
+        memset(image + (at[i] < TRAILER ? 0 : at[i] - TRAILER), 0, TRAILER);
+    }
+}
+
+static void on_signal(int number)
+{
+    char text[100];
+    int n = snprintf(text, sizeof text, "guard: SIGNAL %d in round %llu of seed %llu\n", number, round_number, seed);
+    _exit(write(1, text, n) == n ? 1 : 2);
+}
+
+int main(int argc, char **argv)
+{
+    if (argc < 4) {
+        fprintf(stderr, "usage: guard PACK SEED ROUNDS [heap]\n");
+        return 2;
+    }
+    static const int signals[] = {SIGSEGV, SIGBUS, SIGILL, SIGFPE, SIGTRAP};
+    for (size_t i = 0; i < sizeof signals / sizeof *signals; i++) {
+        signal(signals[i], on_signal);
+    }
+    heap = argc > 4;
+    seed = strtoull(argv[2], NULL, 10);
+    ull rounds = strtoull(argv[3], NULL, 10), sorts[SORTS] = {0}, calls = 0;
+    read_pack(argv[1]);
+    make_rooms();
+    state = seed;
+    limits();
+    for (round_number = 1; round_number <= rounds; round_number++) {
+        sorts[one_round()]++;
+    }
+
+    printf("%s, seed %llu: %llu rounds over %zu accepted images: %llu whole, %llu damaged, %llu of other lengths, "
+           "%llu of random bytes, %llu altered walks\n",
+           heap ? "exact blocks" : "guard pages", seed, rounds, picture_count, sorts[WHOLE], sorts[DAMAGED], sorts[LENGTHS],
+           sorts[BYTES], sorts[ALTERED]);
+    static const char *const names[CALLS] = {"check", "placing", "step", "tally"};
+    for (int call = 0; call < CALLS; call++) {
+        printf("  %-8s by number:", names[call]);
+        for (int code = 0; code < 256; code++) {
+            if (met[call][code]) {
+                printf(" %d: %llu", code, met[call][code]);
+                calls += met[call][code];
+            }
+        }
+        printf("\n");
+    }
+    printf("  %llu calls, each made twice; no signal, nothing amiss\n", calls);
+
+    for (size_t i = 0; i < picture_count; i++) {
+        free(pictures[i].at);
+        free(pictures[i].bytes);
+    }
+    free(pictures);
+    for (int i = 0; i < SLICES * SIDES && heap; i++) {
+        free(room[i / SIDES][i % SIDES]);
+    }
+    return 0;
+}
