@@ -1,5 +1,6 @@
--- What the step's fast path cites: `fast-facts`, what an answer of `fastSlot` says of the image; `fast-move`, that FindNext then
--- hands out that slot's key or is at the end; and that a key which can be stored fits the buffer. Assumes nothing.
+-- What the fast path cites: `fast-facts`, what an answer of `fastSlot` says of the image; `fast-move`, that FindNext then
+-- hands out that slot's key or is at the end; and that a key which can be stored
+-- fits the buffer, and stored twice is stored once. Assumes nothing.
 use mathlib.Core.Path.{_≡_, refl, _∙_}
 use mathlib.Core.Bool.{Bool, true, false, _&&_, and-eq-true-iff}
 use mathlib.Core.List.{List}
@@ -10,15 +11,18 @@ use lib.Dec.{leb, ltb, eqb}
 use lib.ListN.{length, take}
 use Rattle.base.specs.Pick.{pick}
 use Rattle.base.proofs.Choice.{pick-ind}
+use Rattle.base.proofs.Paste.{paste-twice, pastes-twice}
+use Rattle.key.specs.Ikey.{ikeyBytes}
+use Rattle.key.proofs.Ikey.{ikeyBytes-length}
 use Rattle.node.specs.Permuter.{sizeOf}
 use Rattle.node.specs.Layout.{InSlot, permutationAt, ikeyAt, keylenxAt, valueAt, liveAt, suffixAt}
 use Rattle.node.specs.declared.permuter.Position.{Position}
 use Rattle.node.specs.declared.permuter.Slot.{Slot}
-use Rattle.cursor.specs.CursorKey.{withIkey, withLength}
+use Rattle.cursor.specs.CursorKey.{withIkey, withLength, storeIkey, storeSuffix}
 use Rattle.cursor.specs.RangeBound.{contains}
 use Rattle.cursor.specs.declared.cursor_key.CursorPlace.{CursorPlace}
 use Rattle.search.specs.Traversal.{leafThere}
-use Rattle.search.specs.Helper.{slotIn, suffixReadable}
+use Rattle.search.specs.Helper.{slotIn, suffixReadable, suffixBytes}
 use Rattle.search.proofs.TraversalLaws.{not-second}
 use Rattle.search.proofs.Laws.{leaf-there}
 use Rattle.moves.specs.Moves.{Taken, onward, emitKey, takeInline, takeSuffixed, takeSlot, unlessDup, findSlot, findNext}
@@ -67,6 +71,20 @@ module _ (image : List ℕ) (leaf : ℕ) (s : Slot) where
           let b = stored buf (k .offset) (ikeyAt image leaf s) l low in
           pick-ind (λ (x : List ℕ). length x ≡ 256) _ (λ t. b)
           (λ f. let g = storable-suffix (k .offset) h (leb-false _ _ f) in stored-suffix _ _ _ b (rw (suffix-length image leaf s (g .1)) (g .2)))
+
+      -- a key that is stored twice is stored once
+      pub key-twice : (buf : List ℕ) → length buf ≡ 256
+          → keyBuf image leaf s (k .offset) (keyBuf image leaf s (k .offset) buf) ≡ keyBuf image leaf s (k .offset) buf
+      unfolding keyBuf storeIkey storeSuffix pick
+      key-twice buf l = go (leb (keylenxAt image leaf s) 8) refl
+        where
+          go : (r : Bool) → leb (keylenxAt image leaf s) 8 ≡ r
+              → keyBuf image leaf s (k .offset) (keyBuf image leaf s (k .offset) buf) ≡ keyBuf image leaf s (k .offset) buf
+          go true e = rw e (paste-twice buf (ikeyBytes (ikeyAt image leaf s)) (k .offset) 8 (omega arith) (omega (arith, ikeyBytes-length (ikeyAt image leaf s))))
+          go false e =
+              let g = storable-suffix (k .offset) h (leb-false _ _ e) in
+              let n = suffix-length image leaf s (g .1) in
+              rw e (pastes-twice buf (ikeyBytes (ikeyAt image leaf s)) (k .offset) 8 (omega arith) (omega (arith, ikeyBytes-length (ikeyAt image leaf s))) (suffixBytes image leaf s) (length (suffixBytes image leaf s)) (omega (arith, g .2, n)) (omega arith))
 
 -- THE SLOT THAT IS FAST: its leaf stands there, its position is in use, its ikey is not below the cursor's.
 pub record Fast (image : List ℕ) (leaf : ℕ) (p : Position) (k : CursorPlace) (s : Slot) : Type 0 where

@@ -7,9 +7,7 @@ use Prim.Native.Nat.{ℕ}
 use lib.Dec.{eqb}
 use borrow.Author.Tests.{not-true, eqb-true}
 use Rattle.base.specs.Pick.{pick}
-use Rattle.node.specs.declared.permuter.Position.{Position}
 use Rattle.node.specs.declared.permuter.Slot.{Slot}
-use Rattle.cursor.specs.declared.cursor_key.CursorPlace.{CursorPlace}
 use Rattle.moves.specs.Moves.{findNext, passIn}
 use Rattle.moves.specs.FastPath.{fastSlot}
 use Rattle.moves.specs.declared.fast_path.FastSlot.{FastSlot}
@@ -17,9 +15,7 @@ use Rattle.moves.specs.declared.fast_path.FastSlot.the-variants.{At, Slow}
 use Rattle.moves.specs.declared.scan_state.ScanState.{ScanState}
 use Rattle.moves.specs.declared.scan_state.ScanState.the-variants.{Start, Retry, FindNext, Down, Up}
 use Rattle.moves.specs.declared.scan_state.ScanCtx.{ScanCtx}
-use Rattle.scan.specs.Loop.{isUp, isNext, fastAt, fastFor}
-use Rattle.scan.specs.declared.scan_state.WalkState.{WalkState}
-use Rattle.scan.specs.declared.scan_state.WalkState.the-variants as walk
+use Rattle.scan.specs.Loop.{isUp, isNext, fastAt}
 
 pub record OnPath (image : List ℕ) (c : ScanCtx) (slot : Slot) : Type 0 where
   pub not-up-state : isUp (c .state) ≡ false
@@ -107,12 +103,3 @@ fastly whole image c slot e =
     let n = and-eq-true-iff _ _ .0 (w .1) in
     let d = and-eq-true-iff _ _ .0 (n .1) in
     (w .0, on-path image c slot (is-next (c .state) (n .0)) (not-true (c .dup) (d .0)) (eqb-true _ _ (d .1)) (t .1))
-
--- A FAST SLOT OF A STEP: the walk has handed out a key.
-pub fast-state : (state : WalkState) (image : List ℕ) (leaf : ℕ) (p : Position) (k : CursorPlace) (slot : Slot)
-    → fastFor state image leaf p k ≡ At slot → (state ≡ walk.FindNext) × (fastSlot image leaf p k ≡ At slot)
-unfolding fastFor
-fast-state walk.Start image leaf p k slot e = absurd (slow-not-at slot e)
-fast-state walk.Retry image leaf p k slot e = absurd (slow-not-at slot e)
-fast-state walk.FindNext image leaf p k slot e = (refl, e)
-fast-state walk.Ended image leaf p k slot e = absurd (slow-not-at slot e)

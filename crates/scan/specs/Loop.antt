@@ -5,14 +5,11 @@ use mathlib.Core.Path.{_≡_}
 use Prim.Native.Nat.{ℕ, zero, suc, _+_, _-_}
 use lib.Dec.{eqb}
 use lib.ListN.{length, take}
-use Rattle.node.specs.declared.permuter.Position.{Position}
-use Rattle.cursor.specs.declared.cursor_key.CursorPlace.{CursorPlace}
 use Rattle.cursor.specs.declared.range_bound.RangeBound.{RangeBound}
 use Rattle.base.specs.Pick.{pick}
 use Rattle.scan.specs.Machine.{Scan, move, Ran, run, walkOk, isEnded, scanOf, finished}
 use Rattle.scan.specs.declared.scan_state.LayerContext.{LayerContext}
 use Rattle.scan.specs.declared.scan_state.WalkState.{WalkState}
-use Rattle.scan.specs.declared.scan_state.WalkState.the-variants as walk
 use Rattle.scan.specs.declared.scan_state.Walk.{Walk}
 use Rattle.moves.specs.FastPath.{fastSlot}
 use Rattle.moves.specs.declared.fast_path.FastSlot.{FastSlot}
@@ -125,26 +122,7 @@ keysAhead w image = keysIn image (w .bound .kind) (take (w .bound .len) (w .boun
 unfoldable pub keysLeft : Walk → List ℕ → ℕ
 keysLeft w image = pick (walkOk w (length image) && not (isEnded (w .state))) (keysAhead w image) 0
 
-unfoldable pub endedWalk : Walk → Walk
-endedWalk w = record {
-  «image_len» = w .«image_len»;
-  root = w .root;
-  leaf = w .leaf;
-  position = w .position;
-  cursor = w .cursor;
-  depth = w .depth;
-  stack = w .stack;
-  bound = w .bound;
-  state = walk.Ended;
-}
-
--- THE FAST PATH. A step takes it right after a key, and a count too, where no duplicate check is due and the cursor has the last ikey.
-unfoldable pub fastFor : WalkState → List ℕ → ℕ → Position → CursorPlace → FastSlot
-fastFor walk.Start image leaf p k = Slow
-fastFor walk.Retry image leaf p k = Slow
-fastFor walk.FindNext image leaf p k = fastSlot image leaf p k
-fastFor walk.Ended image leaf p k = Slow
-
+-- THE FAST PATH, which a count takes right after a key: no duplicate check is due, and the cursor has the last ikey.
 unfoldable pub isNext : ScanState → Bool
 isNext Start = false
 isNext Retry = false

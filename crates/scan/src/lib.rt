@@ -20,11 +20,8 @@ use node::leaf;
 use node::permuter::Position;
 use node::trailer;
 ghost use mathlib.Core.Path.{_≡_};
-ghost use mathlib.Core.Bool.{true};
-ghost use Prim.Native.Nat.{_≤_};
-ghost use lib.ListN.{length};
 ghost use Rattle.scan.specs.Machine.{zeroWalk, placeFault, startState, freshWalk, place, placeAbove, walkOk, step};
-ghost use Rattle.scan.specs.Loop.{endedWalk, fastFor, keysLeft};
+ghost use Rattle.scan.specs.Loop.{keysLeft};
 
 pub mod forward_ctx;
 pub mod scan_state;
@@ -146,67 +143,8 @@ fn is_walk_ok(walk: Walk, n: usize) -> bool
     b.len <= 256
 }
 
-// The fast slot of a walk that has handed out a key.
-fn fast_for(
-    state: WalkState,
-    image: &[u8],
-    leaf: u64,
-    position: Position,
-    k: CursorPlace,
-) -> FastSlot
-    requires { ⌜ k .offset ≤ 248 ⌝ }
-    ensures { λ r. ⌜ r ≡ fastFor state (now (image .entry)) leaf position k ⌝ }
-{
-    match state {
-        WalkState::Start => FastSlot::Slow,
-        WalkState::Retry => FastSlot::Slow,
-        WalkState::FindNext => fast_path::fast_slot(image, leaf, position, k, false),
-        WalkState::Ended => FastSlot::Slow,
-    }
-}
-
-// A walk, ended where it stands.
-fn end_walk(walk: Walk) -> Walk
-    ensures { λ r. ⌜ r ≡ endedWalk walk ⌝ }
-{
-    let position = walk.position;
-    let cursor = walk.cursor;
-    let stack = walk.stack;
-    let bound = walk.bound;
-    let ended = WalkState::Ended;
-    Walk {
-        image_len: walk.image_len,
-        root: walk.root,
-        leaf: walk.leaf,
-        position: position,
-        cursor: cursor,
-        depth: walk.depth,
-        stack: stack,
-        bound: bound,
-        state: ended,
-    }
-}
-
-// A step by the loop, of a walk whose numbers are in range.
-fn step_slow(walk: Walk, image: &[u8]) -> Stepped
-    requires { ⌜ walkOk walk (length (now image)) ≡ true ⌝ }
-    ensures { λ r. ⌜ r ≡ step walk (now (image .entry)) ⌝ }
-{
-    let state = walk.state;
-    match state {
-        WalkState::Ended => Stepped {
-            answer: Answer::Nothing,
-            moves: 0,
-            walk: walk,
-        },
-        WalkState::Start => forward_ctx::advance_no_alloc(walk, image),
-        WalkState::Retry => forward_ctx::advance_no_alloc(walk, image),
-        WalkState::FindNext => forward_ctx::advance_no_alloc(walk, image),
-    }
-}
-
-// One key further. Declined with 21, 22 or 23, and then the walk as it came. A step that takes the next slot's key, as most do, is
-// made on the walk in place, with no other copy of it; the loop makes the others.
+// One key further. Declined with 21, 22 or 23, and then the walk as it came. Most steps take the next slot's key: they are made on the
+// walk in place. The loop makes every other, and so one that ends by the bound; that the key is in the buffer then changes nothing.
 pub fn step(mut walk: Walk, image: &[u8]) -> Stepped
     ensures { λ r. ⌜ r ≡ step walk (now (image .entry)) ⌝ }
 {
@@ -218,43 +156,51 @@ pub fn step(mut walk: Walk, image: &[u8]) -> Stepped
         };
     }
     let state = walk.state;
-    let position = walk.position;
-    let k = CursorPlace {
-        offset: walk.cursor.offset,
-        len: walk.cursor.len,
-        ikey: walk.cursor.ikey,
-    };
-    let fast = fast_for(state, image, walk.leaf, position, k);
-    match fast {
-        FastSlot::Slow => step_slow(walk, image),
-        FastSlot::At(slot) => {
+    match state {
+        WalkState::Ended => Stepped {
+            answer: Answer::Nothing,
+            moves: 0,
+            walk: walk,
+        },
+        WalkState::Start => forward_ctx::advance_no_alloc(walk, image),
+        WalkState::Retry => forward_ctx::advance_no_alloc(walk, image),
+        WalkState::FindNext => {
             let leaf = walk.leaf as usize;
-            let stored = fast_path::store_key(image, leaf, slot, &mut walk.cursor.buf, k);
-            let len = stored.offset + stored.len;
-            let next = Position(position.0 + 1);
-            walk.position = next;
-            walk.cursor.len = stored.len;
-            walk.cursor.ikey = stored.ikey;
-            if range_bound::contains_first(
-                walk.bound.kind,
-                &walk.bound.key,
-                walk.bound.len,
-                &walk.cursor.buf,
-                len,
-            ) {
-                return Stepped {
-                    answer: Answer::Key {
-                        len: len,
-                        value: leaf::value(image, leaf, slot),
-                    },
-                    moves: 1,
-                    walk: walk,
-                };
-            }
-            Stepped {
-                answer: Answer::Nothing,
-                moves: 1,
-                walk: end_walk(walk),
+            let position = walk.position;
+            let k = CursorPlace {
+                offset: walk.cursor.offset,
+                len: walk.cursor.len,
+                ikey: walk.cursor.ikey,
+            };
+            let fast = fast_path::fast_slot(image, walk.leaf, position, k, false);
+            match fast {
+                FastSlot::Slow => forward_ctx::advance_no_alloc(walk, image),
+                FastSlot::At(slot) => {
+                    let stored = fast_path::store_key(image, leaf, slot, &mut walk.cursor.buf, k);
+                    let len = stored.offset + stored.len;
+                    if range_bound::contains_first(
+                        walk.bound.kind,
+                        &walk.bound.key,
+                        walk.bound.len,
+                        &walk.cursor.buf,
+                        len,
+                    ) {
+                        let next = Position(position.0 + 1);
+                        let value = leaf::value(image, leaf, slot);
+                        walk.position = next;
+                        walk.cursor.len = stored.len;
+                        walk.cursor.ikey = stored.ikey;
+                        return Stepped {
+                            answer: Answer::Key {
+                                len: len,
+                                value: value,
+                            },
+                            moves: 1,
+                            walk: walk,
+                        };
+                    }
+                    forward_ctx::advance_no_alloc(walk, image)
+                }
             }
         }
     }
