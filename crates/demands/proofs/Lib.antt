@@ -17,4 +17,3 @@ pub mod Tally
 pub mod Steps
 pub mod Whole
 pub mod Demand
-pub mod Count

@@ -1,4 +1,6 @@
--- The loop's pieces, as its functions have them: the layer above taken back, and the walk put together again. specs/Machine.antt says what the loop comes to.
+-- The loop as its functions have it: the layer above taken back, the walk put together again, and the run that counts as it goes.
+-- specs/Machine.antt says what a step comes to; proofs/RunLaws.antt has that this run is the machine's, and counts what its moves hand
+-- out.
 use mathlib.Core.Bool.{Bool, true, false, not, _&&_}
 use mathlib.Core.List.{List}
 use mathlib.Core.Path.{_≡_}

@@ -1,4 +1,5 @@
-// The loop (the Rust's advance_no_alloc): it holds the layer stack, and makes moves until a key is out or the walk ends.
+// The loop (the Rust's advance_no_alloc): it holds the layer stack, and makes moves until the next key is out, or past every key
+// until the walk ends, which is a count.
 use crate::scan_state::Answer;
 use crate::scan_state::LayerContext;
 use crate::scan_state::Stepped;
@@ -165,12 +166,13 @@ fn fast_at(image: &[u8], c: ScanCtx, there: bool, whole: bool) -> FastSlot
     fast_path::fast_slot(image, c.leaf, position, k, there)
 }
 
-// What the loop comes to: the keys that were out, and the step that the moves are.
+// What the loop comes to: how many keys were out, and the step that its moves make.
 pub struct Advanced {
     pub keys: usize,
     pub stepped: Stepped,
 }
 
+// Where the loop ends.
 fn came_to(keys: usize, answer: Answer, moves: usize, walk: Walk) -> Advanced
     ensures { λ r. ⌜ r ≡ advancedWith keys answer moves walk ⌝ }
 {
