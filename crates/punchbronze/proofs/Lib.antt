@@ -5,5 +5,6 @@ pub mod Turns
 pub mod Told
 pub mod Inverse
 pub mod Steps
+pub mod InPlace
 pub mod Kept
 pub mod Placing

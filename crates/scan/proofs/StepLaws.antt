@@ -177,3 +177,7 @@ module _ (w : Walk) (image : List ℕ) (slot : Slot) (on : OnFast w image slot) 
           let other : OnFast (holding w stored) image slot = record { fast = on .fast; state = on .state; ok = on .ok; long = sym (ap length eb) ∙ buf-long } in
           let g : within (holding w stored) image slot other ≡ false = rw twice f in
           ea ∙ (rw eb (sym (end (holding w stored) image slot other g) ∙ (rw twice (end w image slot on f)) ∙ steps))
+
+      -- where it hands out nothing
+      pub ends : r ≡ false → step w image .answer ≡ Nothing
+      ends t = sym (ap (λ (x : Stepped). x .answer) (end w image slot on (sym tested ∙ t) ∙ steps))
