@@ -1,4 +1,4 @@
-// The fast path (the Rust's single-layer fast path): most moves after a key hand out the next slot's key, and no test turns it away.
+// The fast path, which the Rust has not: most moves after a key hand out the next slot's key, and no test turns it away.
 // Whether a move is one of these is told before anything is written; `one_move` makes every other.
 use cursor::cursor_key::CursorPlace;
 use node::leaf;
