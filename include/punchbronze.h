@@ -22,7 +22,7 @@
 extern "C" {
 #endif
 
-#define PB_NUMBERS 73
+#define PB_NUMBERS 74
 #define PB_BUFFER 256
 
 /* The kinds of a bound. */
@@ -33,8 +33,8 @@ extern "C" {
 /* A walk between calls: a record that the caller keeps. Fill it by a placing, and hand it to steps.
  *
  * numbers: [0] image length, [1] root, [2] leaf, [3] position, [4] cursor offset, [5] cursor length, [6] ikey, [7] depth, [8] bound
- * kind, [9] bound length, [10] state (0 start, 1 retry, 2 find next, 3 ended), and then for each i below 31 [11 + 2 * i] root and
- * [12 + 2 * i] leaf of stack entry i.
+ * kind, [9] bound length, [10] state (0 start, 1 retry, 2 find next, 3 ended), [11] start mode (0 above, 1 from), and then for each
+ * i below 31 [12 + 2 * i] root and [13 + 2 * i] leaf of stack entry i.
  * buf: the cursor's bytes; after a step that hands out a key, its first bytes are the key.
  * bound: the bound's key. */
 typedef struct pb_walk {
@@ -48,11 +48,12 @@ typedef struct pb_walk {
  * not 3. */
 uint8_t pb_check(const uint8_t *image, size_t image_len, uint64_t *counts, size_t counts_len);
 
-/* Places a walk above a cursor: it will hand out the keys past the cursor, in byte order, up to the bound. Returns 0; or, with the
- * all-zero ended walk in the record, 1 or 2 for the image's length and trailer, 11 for a cursor of over 8 bytes, 12 for a kind over
- * 2, 13 for a bound key of over 256 bytes (for kind 0 too); or 21 where the lengths of numbers, buf and bound are not 73, 256 and
- * 256, and then the three stay as they were. An image that the check does not accept may be placed over; its steps can then be
- * declined with 22 or 23. */
+/* Places a walk above a cursor: it will hand out the keys past the cursor, in byte order, up to the bound. A cursor is any key of up
+ * to 256 bytes, stored or not: placed above the last key that was handed out, a walk goes on where another stopped, and its first
+ * step costs one move for each layer that the cursor leads into. Returns 0; or, with the all-zero ended walk in the record, 1 or 2
+ * for the image's length and trailer, 11 for a cursor of over 256 bytes, 12 for a kind over 2, 13 for a bound key of over 256 bytes
+ * (for kind 0 too); or 21 where the lengths of numbers, buf and bound are not 74, 256 and 256, and then the three stay as they were.
+ * An image that the check does not accept may be placed over; its steps can then be declined with 22 or 23. */
 uint8_t pb_place_above(const uint8_t *image, size_t image_len, const uint8_t *cursor, size_t cursor_len, uint8_t kind,
                        const uint8_t *bound_key, size_t bound_key_len, uint64_t *numbers, size_t numbers_len, uint8_t *buf,
                        size_t buf_len, uint8_t *bound, size_t bound_len);
@@ -64,9 +65,9 @@ uint8_t pb_place_from(const uint8_t *image, size_t image_len, const uint8_t *cur
 
 /* One key further. Returns 0, and then out is { 1 for a key or 0 for none, key length, value, moves }, and numbers and buf are those
  * of the walk after the step; the bound is not changed by a step. Else numbers, buf and out stay as they were, and the number is
- *   21  the record is no walk's (lengths other than 73, 256 and 256, numbers[8] over 255, numbers[10] over 3), or it is out of range
- *       (image length not image_len, depth over 31, offset not 8 * depth, offset plus length over 256, position over 15, kind over 2,
- *       bound length over 256), or the length of out is not 4;
+ *   21  the record is no walk's (lengths other than 74, 256 and 256, numbers[8] over 255, numbers[10] over 3, numbers[11] over 1), or
+ *       it is out of range (image length not image_len, depth over 31, offset not 8 * depth, offset plus length over 256, position
+ *       over 15, kind over 2, bound length over 256), or the length of out is not 4;
  *   22  the image cannot be read on;
  *   23  more moves than the image has bytes.
  * A walk that a placing put over an image that the check accepts, and that only steps over that image have changed, meets none of

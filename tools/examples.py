@@ -1,28 +1,18 @@
 #!/usr/bin/env python3
-"""Writes the requests that crates/examples runs, from document 01's surveyed examples.
+"""Writes the requests that crates/examples runs, from document 01's surveyed examples, and those of crates/records, from 02's.
 
     tools/examples.py > crates/examples/stdin
+    tools/examples.py records > crates/records/stdin
 
-A request is a name, a form, the arguments of a placing and an image. The answers are written by hand in crates/examples/stdout:
-keys, values and numbers from 01's words, moves only where 01 gives them, the samples' keys counted in tools/images.py. Nothing
-here works them out.
+A request is a name, a form, the arguments of a placing and an image; for crates/records also what is altered of the walk's record.
+The answers are written by hand in crates/examples/stdout and crates/records/stdout: keys, values and numbers from 01's and 02's
+words, the samples' keys counted in tools/images.py; moves where 01 gives them, and for 02 one Start for each layer, then as 01
+counts. Nothing here works them out.
 """
-import struct
 import sys
 
-from images import EDITION, IDENTITY, LENGTH, ROOT, SAMPLES
-from images import Leaf, Slot, build, changed, in_leaf, layers, suffixed, trailer, tree_a, tree_b, two_leaves
-
-# Forms: every answer; all moves too; before each step one over a shorter image; the check first, and only the number of keys.
-KEYS, MOVES, FOREIGN, TOTAL = range(4)
-ABOVE, FROM, SHORT = range(3)
-UNBOUNDED, INCLUDED, EXCLUDED = range(3)
-
-
-def request(name, image, mode=ABOVE, cursor=b"", kind=UNBOUNDED, bound=b"", form=KEYS):
-    sys.stdout.buffer.write(
-        bytes([len(name)]) + name.encode() + bytes([form, mode, kind, len(cursor)]) + cursor
-        + struct.pack("<H", len(bound)) + bound + struct.pack("<I", len(image)) + image)
+from images import ABOVE, EDITION, EXCLUDED, FOREIGN, FROM, IDENTITY, INCLUDED, LENGTH, MOVES, ROOT, SAMPLES, SHORT, TOTAL
+from images import Leaf, Slot, build, changed, in_leaf, layers, request, suffixed, trailer, tree_a, tree_b, two_leaves
 
 
 def surveyed():
@@ -39,7 +29,7 @@ def surveyed():
     request("P9", build(Leaf(Slot(b"a", 1), Slot(b"a\0", 2))), cursor=b"a")
     request("P10", build(Leaf(Slot(b"a", 1, live=False), Slot(b"b", 2))), FROM)
     request("P11", build(Leaf()), form=MOVES)
-    request("P12", a, cursor=b"a" * 9)
+    request("P12", a, cursor=b"a" * 257)
 
 
 def placing():
@@ -57,7 +47,7 @@ def placing():
     request("length-444", a + bytes(4))
     request("stated-length-differs", trailer(a, LENGTH, 448))
     request("edition-2", trailer(a, EDITION, 2))
-    faults = {"cursor": b"a" * 9, "kind": 3, "bound": bytes(257)}
+    faults = {"cursor": b"a" * 257, "kind": 3, "bound": bytes(257)}
     request("1-before-11", a[:432], **faults)
     request("2-before-11", trailer(a, EDITION, 2), **faults)
     request("11-before-12", a, **faults)
@@ -79,6 +69,110 @@ def stepping():
     request("next-is-itself", changed(Leaf(), "<Q", in_leaf(392), 8))
 
 
+# The numbers of a record that are altered below, by their index.
+LAYER_ROOT, OFFSET, LEN, IKEY, DEPTH, STATE, MODE, STACK = 1, 4, 5, 6, 7, 10, 11, 12
+START, RETRY = 0, 1
+BUFFER = 256
+K8 = b"k" * 8
+
+
+def resume(name, tree, mode, cursor, changes=None, **more):
+    image = tree if isinstance(tree, bytes) else build(tree)
+    request(name, image, mode, cursor, changes=changes or {}, **more)
+
+
+def deep():
+    """31 layers at eight bytes "c", and below them x and y."""
+    node = Leaf(Slot(b"x", 1), Slot(b"y", 2))
+    for _ in range(31):
+        node = Leaf(Slot(b"c" * 8, sub=node))
+    return node
+
+
+def whole_names():
+    """02 [1] over accepted images: cursors past eight bytes, and up to eight bytes nothing new."""
+    b = tree_b()
+    resume("resume-from", b, FROM, b"entrance.1")
+    resume("resume-above", b, ABOVE, b"entrance.1")
+    resume("resume-above-last", b, ABOVE, b"entrance.2")
+    resume("resume-above-256", b, ABOVE, b"entrance" * 32)
+    resume("resume-below-layer", b, FROM, b"entrancd" + b"\xff" * 9)
+    resume("resume-past-all", b, FROM, b"entrancf" + b"x")
+    resume("resume-inline-below", tree_a(), ABOVE, b"ab" + bytes(7))
+    resume("eight-bytes", b, FROM, b"entrance")
+    resume("nine-bytes", b, FROM, b"entrance\0")
+    resume("deep-above", deep(), ABOVE, b"c" * 248 + b"x")
+    resume("deep-from-empty", deep(), FROM, b"")
+    resume("above-equal-behind-shorter", Leaf(Slot(b"a", 1), Slot(b"a\0", 2), Slot(b"b", 3)), ABOVE, b"a\0")
+    # a layer behind inline slots of its ikey is entered
+    zeros = b"ab" + bytes(6)
+    resume("layer-behind-inline", Leaf(Slot(b"ab", 1), Slot(zeros, 2), Slot(zeros, sub=Leaf(Slot(b"x", 3)))), FROM, zeros + b"x")
+    # a suffix below the cursor, equal to it, and above it; an inline key of the cursor's ikey is below it
+    suffix = Leaf(Slot(K8, 1), Slot(K8, 2, suffix=b"m"), Slot(b"l", 3))
+    for mode, word in ((FROM, "from"), (ABOVE, "above")):
+        resume(f"suffix-below-{word}", suffix, mode, K8 + b"n")
+        resume(f"suffix-equal-{word}", suffix, mode, K8 + b"m")
+        resume(f"suffix-over-{word}", suffix, mode, K8 + b"a")
+        dead = Leaf(Slot(K8, 1, suffix=b"m", live=False), Slot(b"l", 2))
+        resume(f"suffix-dead-{word}", dead, mode, K8 + b"m")
+    # 01's example of what `find_initial` would do, and its like past eight bytes
+    resume("not-by-ikey-above", Leaf(Slot(b"a\0", 1)), ABOVE, b"a")
+    resume("not-by-ikey-from", Leaf(Slot(b"a", 1)), FROM, b"a\0")
+    resume("not-by-ikey-long", Leaf(Slot(K8, 1)), FROM, K8 + b"\0")
+    resume("cursor-of-256", tree_a(), FROM, b"a" * 256)
+    resume("cursor-of-257", tree_a(), FROM, b"a" * 257)
+    resume("11-first", tree_a(), FROM, b"a" * 257, kind=3, bound=bytes(257))
+
+
+def whole_names_any_image():
+    """02 [1] over images that the check declines: 22 where 02 puts it, and the walk as it came."""
+    b = tree_b()
+    resume("root-4", trailer(build(b), ROOT, 4), FROM, b"entrance.1")
+    resume("layer-word-4", changed(b, "<Q", in_leaf(152), 4), FROM, b"entrance.1")
+    resume("layer-is-itself", changed(b, "<Q", in_leaf(152), 408), FROM, b"entrance" * 32)
+    resume("suffix-of-249", Leaf(Slot(K8, 1, suffix=b"s" * 249), Slot(b"l", 2)), FROM, K8 + b"t")
+    resume("suffix-past-trailer", changed(Leaf(Slot(K8, 1, suffix=b"s"), Slot(b"l", 2)), "<I", in_leaf(272), 800), FROM, K8 + b"t")
+    resume("two-suffixes", Leaf(Slot(K8, 1, suffix=b"a"), Slot(K8, 2, suffix=b"b"), Slot(b"z", 3)), ABOVE, K8 + b"b")
+    both = Leaf(Slot(K8, 1, suffix=b"a"), Slot(K8, sub=Leaf(Slot(b"c", 2))))
+    resume("layer-behind-suffix", both, FROM, K8 + b"b")
+    # of slots out of order the first that is above the cursor is stood at, though its own key stands behind
+    resume("higher-ikey-first", Leaf(Slot(b"z", 1), Slot(K8, 2, suffix=b"a")), FROM, K8 + b"a", kind=INCLUDED, bound=b"y")
+    # an unlisted keylenx on a lower ikey, on the cursor's own (dead too), on a higher one
+    resume("keylenx-9-lower", Leaf(Slot(b"a", 1, keylenx=9), Slot(b"z", 2)), FROM, K8 + b"t")
+    resume("keylenx-9-equal", Leaf(Slot(K8, 1, keylenx=9), Slot(b"z", 2)), FROM, K8 + b"t")
+    resume("keylenx-127-equal-dead", Leaf(Slot(K8, 1, keylenx=127, live=False), Slot(b"z", 2)), FROM, K8 + b"t")
+    resume("keylenx-9-higher", Leaf(Slot(b"z", 1, keylenx=9)), FROM, K8 + b"t")
+    # a slot of 15: where the search reads the field, and not behind the slot it stands at
+    two = Leaf(Slot(b"y", 1), Slot(b"z", 2))
+    resume("slot-15-read", changed(two, "<Q", in_leaf(8), IDENTITY + 2 | 0xF << 4), FROM, K8 + b"t")
+    resume("slot-15-behind", changed(two, "<Q", in_leaf(8), IDENTITY + 2 | 0xF << 8), FROM, K8 + b"t")
+
+
+def whole_names_altered():
+    """02 [1] of walks that the caller altered."""
+    a, b = tree_a(), tree_b()
+    # what is past the cursor's length is not read, and the ikey of a layer that is entered is stored
+    resume("byte-past-length", b, FROM, b"entrance.", {BUFFER + 9: 0xFF})
+    resume("ikey-stored", b, FROM, b"entrance.1", {BUFFER + 0: ord("X")})
+    # Start with at most eight bytes in the whole cursor goes by 01's rule in mode above too
+    resume("start-above-short", a, ABOVE, b"a", {STATE: START})
+    inner = Leaf(Slot(b"", 6), Slot(b"x", 7))
+    tree = Leaf(Slot(b"entrance", sub=inner))
+    image = build(tree)
+    down = {LAYER_ROOT: inner.at, OFFSET: 8, LEN: 0, IKEY: 0, DEPTH: 1, STATE: START, STACK: tree.at, STACK + 1: tree.at}
+    resume("start-above-whole-8", image, ABOVE, b"entrance", down)
+    resume("start-above-whole-9", build(b), ABOVE, b"entrance",
+           {LAYER_ROOT: 8, OFFSET: 8, LEN: 2, IKEY: int.from_bytes(b".1".ljust(8, b"\0"), "big"), DEPTH: 1, STATE: START,
+            STACK: 408, STACK + 1: 408, BUFFER + 8: ord("."), BUFFER + 9: ord("1")})
+    # only Start reads the start mode
+    resume("retry-of-from", a, FROM, b"a", {STATE: RETRY})
+    resume("length-set-to-9", b, FROM, b"entrance", {LEN: 9})
+    resume("mode-from-to-above", b, FROM, b"entrance.1", {MODE: 0})
+    resume("mode-2", a, FROM, b"a", {MODE: 2})
+    resume("mode-2-64", a, FROM, b"a", {MODE: 2**64 - 1})
+    resume("length-257", a, FROM, b"a", {LEN: 257})
+
+
 def whole():
     """The longest key, the deepest layer and the samples, each walked to its end."""
     request("suffix-of-248", build(suffixed(248)), FROM)
@@ -87,8 +181,19 @@ def whole():
         request("sample-" + name, image(), FROM, form=TOTAL)
 
 
+def main():
+    if sys.argv[1:] == []:
+        surveyed()
+        placing()
+        stepping()
+        whole()
+    elif sys.argv[1:] == ["records"]:
+        whole_names()
+        whole_names_any_image()
+        whole_names_altered()
+    else:
+        sys.exit(__doc__)
+
+
 if __name__ == "__main__":
-    surveyed()
-    placing()
-    stepping()
-    whole()
+    main()

@@ -12,7 +12,13 @@ import sys
 
 TOP = 1 << 64
 IDENTITY = 0xEDCBA98765432100
-CHECK = 4  # the form of a request to crates/runner that checks an image and does not walk
+
+# A request's form, start mode and kind of bound, as crates/runner reads them. Forms: every answer; all moves too; before each step one
+# over a shorter image; the check first, and only the number of keys; the check alone; every step with the walk after it (for
+# tests/differential).
+KEYS, MOVES, FOREIGN, TOTAL, CHECK, STATES = range(6)
+ABOVE, FROM, SHORT = range(3)
+UNBOUNDED, INCLUDED, EXCLUDED = range(3)
 
 
 def ikey(part):
@@ -101,6 +107,17 @@ def build(root):
     layer(root)
     out += struct.pack("<QQQQ", root.at, count, len(out) + 32, 1)
     return bytes(out)
+
+
+def request(name, image, mode=ABOVE, cursor=b"", kind=UNBOUNDED, bound=b"", form=KEYS, changes=None):
+    """Writes a request. `changes` (for crates/records alone) gives numbers of the record by their index, and bytes of its buffer by
+    256 plus theirs."""
+    sys.stdout.buffer.write(
+        bytes([len(name)]) + name.encode() + bytes([form, mode, kind]) + struct.pack("<H", len(cursor)) + cursor
+        + struct.pack("<H", len(bound)) + bound + struct.pack("<I", len(image)) + image)
+    if changes is not None:
+        changes = b"".join(struct.pack("<HQ", at, value) for at, value in changes.items())
+        sys.stdout.buffer.write(struct.pack("<H", len(changes)) + changes)
 
 
 # ---- trees in order
@@ -326,8 +343,7 @@ SAMPLES = {
 def main():
     if sys.argv[1:] == ["table"]:
         for name, image in table():
-            how = bytes([CHECK, 0, 0, 0, 0, 0])  # form, mode, kind; no cursor, no bound key
-            sys.stdout.buffer.write(bytes([len(name)]) + name.encode() + how + struct.pack("<I", len(image)) + image)
+            request(name, image, form=CHECK)
     elif sys.argv[1:] == ["sample", "list"]:
         print("\n".join(SAMPLES))
     elif len(sys.argv) == 3 and sys.argv[1] == "sample" and sys.argv[2] in SAMPLES:

@@ -75,7 +75,7 @@ extern "C" {
     ) -> u8;
 }
 
-/// A call was declined, with the specification's number: 1 and on for a fault of the image, 11 for a cursor of over 8 bytes, 13 for a
+/// A call was declined, with the specification's number: 1 and on for a fault of the image, 11 for a cursor of over 256 bytes, 13 for a
 /// bound key of over 256 bytes, 21 for an image of another length than the walk's, 22 and 23 for an image that cannot be read on,
 /// which a walk never meets over the image that it was placed over where [`check`] accepts that.
 #[derive(Clone, Copy, Debug, PartialEq, Eq)]
@@ -170,13 +170,14 @@ pub struct Step {
 /// A walk between calls, as the record in which it crosses to the library.
 #[derive(Clone)]
 pub struct Walk {
-    numbers: [u64; 73],
+    numbers: [u64; 74],
     buf: [u8; 256],
     bound: [u8; 256],
 }
 
 impl Walk {
-    /// A walk over the keys above a cursor, up to a bound.
+    /// A walk over the keys above a cursor, up to a bound. A cursor is any key of up to 256 bytes, stored or not: placed above the last
+    /// key that was handed out, a walk goes on where another stopped.
     pub fn above(image: &[u8], cursor: &[u8], bound: Bound<'_>) -> Result<Walk, Declined> {
         Walk::place(false, image, cursor, bound)
     }
@@ -188,7 +189,7 @@ impl Walk {
 
     fn place(from: bool, image: &[u8], cursor: &[u8], bound: Bound<'_>) -> Result<Walk, Declined> {
         let (kind, key) = bound.parts();
-        let mut walk = Walk { numbers: [0; 73], buf: [0; 256], bound: [0; 256] };
+        let mut walk = Walk { numbers: [0; 74], buf: [0; 256], bound: [0; 256] };
         let call = if from { pb_place_from } else { pb_place_above };
         // SAFETY: as in `check`; the three lent arrays are fields of one struct and do not overlap.
         taken(unsafe {

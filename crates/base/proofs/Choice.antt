@@ -1,5 +1,5 @@
 -- Laws of `pick`. Assumes nothing.
-use mathlib.Core.Path.{_≡_, refl}
+use mathlib.Core.Path.{_≡_, refl, sym, _∙_}
 use mathlib.Core.Bool.{Bool, true, false, not}
 use borrow.Author.Tests.{not-true, not-false}
 use Rattle.base.specs.Pick.{pick}
@@ -10,8 +10,15 @@ unfolding pick
 pick-ind P true f g = f refl
 pick-ind P false f g = g refl
 
--- What a call's answer r, which is the test b, says of a choice by b or by its negation: r itself was tested, or `!r`.
+-- What a call's answer r, which is the test b, says of b, where the code tests `!r`; and of a choice by b or by its negation: r
+-- itself was tested, or `!r`.
 module _ (b r : Bool) (e : r ≡ b) where
+  pub found-so : not r ≡ false → b ≡ true
+  found-so f = sym e ∙ not-false r f
+
+  pub found-not : not r ≡ true → b ≡ false
+  found-not t = sym e ∙ not-true r t
+
   pub pick-on : {A : Type 0} (x y z : A) → r ≡ true → z ≡ x → z ≡ pick b x y
   unfolding pick
   pick-on x y z t g = rw (← e, t) g

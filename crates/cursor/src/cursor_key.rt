@@ -4,10 +4,10 @@
 // read or write it, and the three numbers go by value, so that no call copies 256 bytes.
 use key::Ordering;
 ghost use mathlib.Core.Path.{_≡_};
-ghost use Prim.Native.Nat.{_+_, _≤_};
+ghost use Prim.Native.Nat.{_+_, _≤_, _<_};
 ghost use lib.ListN.{length};
 ghost use Rattle.key.specs.Order.{byteOrder};
-ghost use Rattle.cursor.specs.CursorKey.{fromSlice, shiftClear, unshift, hasSuffix, suffixOf, compareSlot, storeIkey, withIkey, withLength, storeSuffix};
+ghost use Rattle.cursor.specs.CursorKey.{fromSlice, shiftClear, shift, unshift, hasSuffix, suffixOf, compareSlot, storeIkey, withIkey, withLength, storeSuffix};
 
 // The length that `unshift` sets: one more than an ikey has, so that the cursor stands past the layer's slot.
 pub const UNSHIFT_SENTINEL_LEN: usize = 9;
@@ -50,6 +50,19 @@ impl CursorPlace {
             offset: self.offset + 8,
             len: 0,
             ikey: 0,
+        }
+    }
+
+    // One layer down, where the cursor's own bytes lead into it.
+    pub fn shift(self, buf: &[u8; 256]) -> CursorPlace
+        requires { ⌜ 8 < self .len ⌝ }
+        requires { ⌜ self .offset + self .len ≤ 256 ⌝ }
+        ensures { λ r. ⌜ r ≡ shift self (now (buf .entry)) ⌝ }
+    {
+        CursorPlace {
+            offset: self.offset + 8,
+            len: self.len - 8,
+            ikey: key::ikey_of(self.suffix(buf)),
         }
     }
 

@@ -1,9 +1,15 @@
-// Where a walk ends (the Rust's iterator/range_bound.rs).
+// Where a walk begins and where it ends (the Rust's iterator/range_bound.rs).
 use key::Ordering;
 ghost use mathlib.Core.Path.{_≡_};
 ghost use Prim.Native.Nat.{_≤_};
 ghost use lib.ListN.{length, take};
 ghost use Rattle.cursor.specs.RangeBound.{contains, boundOf};
+
+// Where a walk begins: above its cursor, or from it on.
+pub enum StartMode {
+    Above,
+    From,
+}
 
 // A bound as a walk keeps it: kind 0 unbounded, 1 included, 2 excluded, and the first `len` bytes of `key`.
 pub struct RangeBound {

@@ -1,15 +1,21 @@
--- A fresh walk over an accepted image stands before a row (`begin`): what is left of it is what lies past the start,
--- and it weighs no more than the tree.
-use mathlib.Core.Path.{_≡_, refl}
-use mathlib.Core.List.{List, []}
+-- A fresh walk over an accepted image stands before a row (`begin`), whatever its cursor: what is left of it is what lies
+-- past the start, and the potential is no more than the tree weighs.
+use mathlib.Core.Path.{_≡_, refl, ap, sym, _∙_, subst}
+use mathlib.Core.List.{List, [], _++_, append-nil}
 use mathlib.Core.Bool.{true, false}
-use Prim.Native.Nat.{ℕ, suc, _+_, _*_, _≤_, _<_}
+use Prim.Native.Nat.{ℕ, suc, _+_, _*_, _-_, _≤_, _<_}
 use native.Mathlib.Omega.{arith}
-use lib.ListN.{length, getD}
+use lib.Dec.{ltb}
+use lib.ListN.{length, getD, replicate, length-replicate}
+use borrow.Author.Tests.{lt-ltb, le-ltb}
+use Rattle.base.specs.Pick.{pick}
+use Rattle.base.proofs.Choice.{pick-ind}
 use Rattle.key.specs.Ikey.{ikeyOf}
 use Rattle.key.specs.Part.{padded}
+use Rattle.key.specs.declared.Ordering.{Ordering}
+use Rattle.key.proofs.Order.{Cmp, is-lt, is-eq, is-gt, cmp}
 use Rattle.key.proofs.Bytes.{Bytes}
-use Rattle.key.proofs.Ikey.{rank}
+use Rattle.key.proofs.Ikey.{rank, padded-length}
 use Rattle.node.specs.Layout.{rootOffset}
 use Rattle.cursor.specs.CursorKey.{fromSlice}
 use Rattle.cursor.specs.declared.cursor_key.CursorPlace.{CursorPlace}
@@ -19,97 +25,163 @@ use Rattle.layering.specs.Sieve.{sieve}
 use Rattle.layering.proofs.Row.{Row, stop, keys, weight}
 use Rattle.layering.proofs.Flat.{flatN}
 use Rattle.layering.proofs.Pairs.{obeys-row}
-use Rattle.layering.proofs.Walk.{bottom, retry}
+use Rattle.layering.proofs.Walk.{Stack, bottom, seek, above, climb, pot}
 use Rattle.layering.proofs.Descent.{Past, past-asc, NextHop, routeN, descentN, hopN}
 use Rattle.search.specs.Traversal.{reach}
 use Rattle.search.specs.declared.traversal.Reached.the-variants.{Leaf as ReachedLeaf}
-use Rattle.scan.specs.Machine.{startState, freshWalk, scanState, lastIkey, scanOf}
-use Rattle.scan.specs.declared.scan_state.StartMode.{StartMode}
-use Rattle.scan.specs.declared.scan_state.StartMode.the-variants.{Above, From}
+use Rattle.cursor.specs.declared.range_bound.StartMode.{StartMode}
+use Rattle.cursor.specs.declared.range_bound.StartMode.the-variants.{Above, From}
+use Rattle.moves.specs.declared.scan_state.ScanState.{ScanState}
+use Rattle.moves.specs.declared.scan_state.ScanState.the-variants as loop
+use Rattle.scan.specs.Machine.{Scan, emptyContext, shortState, startState, freshWalk, scanState, lastIkey, scanOf}
+use Rattle.scan.specs.declared.scan_state.WalkState.{WalkState}
+use Rattle.scan.specs.declared.scan_state.WalkState.the-variants.{Start, Retry}
 use Rattle.demands.specs.Demand.{past}
-use Rattle.demands.proofs.Search.{reached-at, stands, starts}
-use Rattle.demands.proofs.Relation.{At, Rep}
-use Rattle.demands.proofs.Follow.{arrived, retried, started}
+use Rattle.demands.proofs.Search.{reached-at, stands}
+use Rattle.demands.proofs.Relation.{At, Piled, Core, Nexts, Rep}
+use Rattle.demands.proofs.Follow.{arrived, retried}
 use Rattle.demands.proofs.Sound.{sound}
 use Rattle.demands.proofs.Reach.{reachN}
-use Rattle.demands.proofs.Read.{Landed, routeN-at}
-use Rattle.demands.proofs.Place.{begun, Placed, place-above, place-from}
+use Rattle.demands.proofs.Read.{Lands, routeN-lands, landed-at}
+use Rattle.demands.proofs.Place.{opening, core-opening, Placed, place-above}
+use Rattle.demands.proofs.Verdict.{Wide}
+use Rattle.demands.proofs.Start.{begins-all}
 
--- Where a fresh walk stands. The bound's arguments are the walk's own (kind and bound) and those that its moves go by.
-pub record Begun (image : List ℕ) (mode : StartMode) (x : List ℕ) (kind : ℕ) (bound : List ℕ) (kind′ : ℕ)
-    (bound′ : List ℕ) : Type 0 where
+fresh-scan : (image : List ℕ) (mode : StartMode) (x : List ℕ) (kind : ℕ) (bound : List ℕ) (st : WalkState)
+    → startState mode (length x) ≡ st
+    → scanOf (freshWalk image mode x kind bound) ≡ opening image x (scanState mode st) (lastIkey st (ikeyOf x))
+unfolding scanOf freshWalk fromSlice opening
+fresh-scan image mode x kind bound st e =
+    ap (λ (st : WalkState). opening image x (scanState mode st) (lastIkey st (ikeyOf x))) e
+
+-- which state a placing leaves
+past-eight : (mode : StartMode) (x : List ℕ) → 8 < length x → startState mode (length x) ≡ Start
+unfolding startState pick
+past-eight mode x h = rw (lt-ltb 8 (length x) h)
+
+from-start : (x : List ℕ) → startState From (length x) ≡ Start
+unfolding startState shortState
+from-start x = pick-ind (λ (s : WalkState). s ≡ Start) (ltb 8 (length x)) (λ t. refl) (λ t. refl)
+
+above-retry : (x : List ℕ) → length x ≤ 8 → startState Above (length x) ≡ Retry
+unfolding startState shortState pick
+above-retry x h = rw (le-ltb 8 (length x) h)
+
+-- Where a fresh walk stands, s its first scan.
+pub record Begun (image : List ℕ) (mode : StartMode) (x : List ℕ) (kind : ℕ) (bound : List ℕ) (s : Scan) : Type 0 where
+  pub steps : ℕ
+  pub pre : List ℕ
   pub to : Row
-  pub rep : Rep image kind′ bound′ (scanOf (freshWalk image mode x kind bound)) (retry [] to bottom)
-  pub left : sieve (past mode x) (keys [] (flatN (treeOf image) stop)) ≡ keys [] to
-  pub light : weight to ≤ weight (flatN (treeOf image) stop)
+  pub over : Stack
+  pub rep : Rep image kind bound s (seek steps pre to over)
+  pub left : sieve (past mode x) (keys [] (flatN (treeOf image) stop)) ≡ keys pre to ++ above over
+  pub light : pot (seek steps pre to over) ≤ weight (flatN (treeOf image) stop) + 3
 
-module _ (image : List ℕ) (b : (i : ℕ) → getD image i 0 < 256) (o : Obeys image) (x : List ℕ) (short : length x ≤ 8)
-    (bx : Bytes x) where
-  row : Row
-  row = flatN (treeOf image) stop
-
-  -- the leaf that the cursor's ikey leads to, and the row from there on
-  leaf-at : ℕ
-  leaf-at = routeN (ikeyOf x) (treeOf image) stop .0
-
-  row-at : Row
-  row-at = routeN (ikeyOf x) (treeOf image) stop .1
-
-  k : CursorPlace
-  k = record { offset = 0; len = length x; ikey = ikeyOf x }
-
-  landed : Landed image 0 (routeN (ikeyOf x) (treeOf image) stop)
-  unfolding At
-  landed = routeN-at image (treeOf image) (ikeyOf x) stop (sound image b o) (λ m d. (refl, d))
-
-  reaches-leaf : reach image (ikeyOf x) (rootOffset image) ≡ ReachedLeaf leaf-at
-  unfolding reach leaf-at
-  reaches-leaf = reachN image (treeOf image) (rootOffset image + 1) (ikeyOf x) stop (sound image b o) (omega arith)
-
-  hops : NextHop (ikeyOf x) row-at
-  unfolding row-at NextHop
-  hops = hopN (treeOf image) (ikeyOf x) stop tt
-
-  passed : (lo : ℕ) → ikeyOf x * 16 ≤ lo → Past lo row row-at
-  unfolding row row-at
-  passed lo h = descentN (treeOf image) (ikeyOf x) lo 0 stop (obeys-row image b o) h
-
-  pub begin : (mode : StartMode) (kind : ℕ) (bound : List ℕ) (kind′ : ℕ) (bound′ : List ℕ)
-      → Begun image mode x kind bound kind′ bound′
-  unfolding Rep scanOf freshWalk scanState startState lastIkey fromSlice begun arrived row row-at leaf-at k rank
-  begin Above kind bound kind′ bound′ =
-      let s = past-asc (passed (suc (rank x)) (omega arith)) 0 (obeys-row image b o) in
-      let z = reached-at (stands image leaf-at (landed .0) k (padded x) short) in
-      let q : Placed image Above x (begun (rootOffset image) x true leaf-at (z .0)) row
-      = place-above image x short bx (rootOffset image) leaf-at (z .0) (landed .0) (omega (arith, z .2 .high)) row 0
-      (obeys-row image b o) row-at (s .0) (landed .1) (s .1) hops (passed (suc (rank x)) (omega arith)) (z .2) in
+module _ (image : List ℕ) (b : (i : ℕ) → getD image i 0 < 256) (o : Obeys image) (x : List ℕ) (bx : Bytes x)
+    (kind : ℕ) (bound : List ℕ) where
+  -- WITH START
+  begin-start : (mode : StartMode) → Wide mode (length x) → length x ≤ 256
+      → Begun image mode x kind bound (opening image x (loop.Start mode) 0)
+  unfolding opening padded Rep above climb pot
+  begin-start mode w h =
+      let g = begins-all image mode x (replicate (256 - length x) 0) w kind bound 31 (opening image x (loop.Start mode) 0)
+      [] x bottom (treeOf image)
+      (record {
+        state = refl;
+        core = core-opening image x (loop.Start mode) h;
+        whole = refl;
+        bytes = bx;
+        held = refl;
+        ikey = refl;
+        len = refl;
+        off = refl;
+        none-out = refl;
+        from = 8;
+        sound = sound image b o;
+        low = 0;
+        asc = obeys-row image b o;
+      })
+      (omega arith) in
       record {
-        to = q .to;
-        rep = record {
-          to = begun (rootOffset image) x true leaf-at (z .0);
-          goes =
-              retried image kind′ bound′ (scanOf (freshWalk image Above x kind bound)) leaf-at (z .0) refl reaches-leaf
-              (z .1);
-          then = q .stands;
-        };
-        left = q .left;
-        light = q .light;
+        steps = g .steps;
+        pre = g .pre;
+        to = g .to;
+        over = g .over;
+        rep = g .rep;
+        left = sym (append-nil _) ∙ g .left;
+        light = omega (arith, g .light);
       }
-  begin From kind bound kind′ bound′ =
-      let s = past-asc (passed (rank x) (omega arith)) 0 (obeys-row image b o) in
-      let z = reached-at (starts image leaf-at (landed .0) k (padded x) short) in
-      let q : Placed image From x (begun (rootOffset image) x false leaf-at (z .0)) row
-      = place-from image x short bx (rootOffset image) leaf-at (z .0) (landed .0) (omega (arith, z .2 .high)) row 0
-      (obeys-row image b o) row-at (s .0) (landed .1) (s .1) hops (passed (rank x) (omega arith)) (z .2) in
-      record {
-        to = q .to;
-        rep = record {
-          to = begun (rootOffset image) x false leaf-at (z .0);
-          goes =
-              started image kind′ bound′ (scanOf (freshWalk image From x kind bound)) leaf-at (z .0) refl reaches-leaf
-              (z .1);
-          then = q .stands;
-        };
-        left = q .left;
-        light = q .light;
-      }
+
+  -- WITH RETRY: above a cursor of at most eight bytes
+  module _ (short : length x ≤ 8) where
+    row : Row
+    row = flatN (treeOf image) stop
+
+    -- the leaf that the cursor's ikey leads to, and the row from there on
+    leaf-at : ℕ
+    leaf-at = routeN (ikeyOf x) (treeOf image) stop .0
+
+    row-at : Row
+    row-at = routeN (ikeyOf x) (treeOf image) stop .1
+
+    k : CursorPlace
+    k = record { offset = 0; len = length x; ikey = ikeyOf x }
+
+    landed : Lands image 0 (routeN (ikeyOf x) (treeOf image) stop)
+    unfolding At
+    landed = routeN-lands image (treeOf image) (ikeyOf x) stop (sound image b o) (λ m d. (refl, d))
+
+    reaches-leaf : reach image (ikeyOf x) (rootOffset image) ≡ ReachedLeaf leaf-at
+    unfolding reach leaf-at
+    reaches-leaf = reachN image (treeOf image) (rootOffset image + 1) (ikeyOf x) stop (sound image b o) (omega arith)
+
+    hops : NextHop (ikeyOf x) row-at
+    unfolding row-at NextHop
+    hops = hopN (treeOf image) (ikeyOf x) stop tt
+
+    passed : (lo : ℕ) → ikeyOf x * 16 ≤ lo → Past lo row row-at
+    unfolding row row-at
+    passed lo h = descentN (treeOf image) (ikeyOf x) lo 0 stop (obeys-row image b o) h
+
+    begin-retry : Begun image Above x kind bound (opening image x loop.Retry 0)
+    unfolding Rep Nexts opening arrived row row-at leaf-at k rank above climb pot
+    begin-retry =
+        let s = past-asc (passed (suc (rank x)) (omega arith)) 0 (obeys-row image b o) in
+        let z = reached-at (stands image leaf-at (landed .ok) k (padded x) short) in
+        let q : Placed image x (arrived (opening image x loop.Retry 0) leaf-at (z .0) true) row
+        = place-above image x short bx leaf-at (z .0) (landed .ok) (omega (arith, z .2 .high)) row 0
+        (obeys-row image b o) row-at (s .0) (landed-at image landed) (s .1) hops (passed (suc (rank x)) (omega arith)) (z .2) in
+        record {
+          steps = 0;
+          pre = [];
+          to = q .to;
+          over = bottom;
+          rep = record {
+            to = arrived (opening image x loop.Retry 0) leaf-at (z .0) true;
+            goes = retried image kind bound (opening image x loop.Retry 0) leaf-at (z .0) refl reaches-leaf (z .1);
+            then = q .stands;
+          };
+          left = q .left ∙ sym (append-nil _);
+          light = omega (arith, q .light);
+        }
+
+  -- EVERY FRESH WALK. The bound's arguments are the walk's own (kind′ and bound′) and those that its moves go by.
+  pub begin-at : (mode : StartMode) (kind′ : ℕ) (bound′ : List ℕ) → length x ≤ 256
+      → Begun image mode x kind bound (scanOf (freshWalk image mode x kind′ bound′))
+  unfolding scanState lastIkey Wide
+  begin-at From kind′ bound′ h =
+      subst (Begun image From x kind bound) (sym (fresh-scan image From x kind′ bound′ Start (from-start x)))
+      (begin-start From tt h)
+  begin-at Above kind′ bound′ h = go (cmp 8 (length x))
+    where
+      go : {u : Ordering} → Cmp 8 (length x) u
+          → Begun image Above x kind bound (scanOf (freshWalk image Above x kind′ bound′))
+      go (is-lt c) =
+          subst (Begun image Above x kind bound)
+          (sym (fresh-scan image Above x kind′ bound′ Start (past-eight Above x c))) (begin-start Above c h)
+      go (is-eq c) =
+          subst (Begun image Above x kind bound)
+          (sym (fresh-scan image Above x kind′ bound′ Retry (above-retry x (omega arith)))) (begin-retry (omega arith))
+      go (is-gt c) =
+          subst (Begun image Above x kind bound)
+          (sym (fresh-scan image Above x kind′ bound′ Retry (above-retry x (omega arith)))) (begin-retry (omega arith))

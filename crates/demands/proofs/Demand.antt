@@ -14,7 +14,7 @@ use Rattle.verify.specs.Check.{accepted, check}
 use Rattle.verify.specs.declared.Counts.{Counts}
 use Rattle.verify.proofs.Theorem.{accepted-obeys, treeCounts}
 use Rattle.scan.specs.Machine.{place, step}
-use Rattle.scan.specs.declared.scan_state.StartMode.{StartMode}
+use Rattle.cursor.specs.declared.range_bound.StartMode.{StartMode}
 use Rattle.scan.specs.declared.scan_state.Walk.{Walk}
 use Rattle.scan.specs.declared.scan_state.Answer.the-variants.{Declined}
 use Rattle.demands.specs.Demand.{Call, steps, Lent, said, movesOf, past, rowOf, due}
@@ -42,7 +42,7 @@ demand-3 image b c a mode cursor bc kind bound e calls l =
 
 -- The placings over an accepted image that are taken: cursor, kind and bound in their limits.
 pub is-taken : (image : List ℕ) (c : Counts) → check image ≡ accepted c → (mode : StartMode) (cursor : List ℕ) (kind : ℕ) (bound : List ℕ)
-    → length cursor ≤ 8 → kind ≤ 2 → length bound ≤ 256 → place image mode cursor kind bound .code ≡ 0
+    → length cursor ≤ 256 → kind ≤ 2 → length bound ≤ 256 → place image mode cursor kind bound .code ≡ 0
 is-taken image c a = takes image (accepted-obeys image c a .0)
 
 -- "foreign-length steps are declined with 21 and change nothing", whatever the walk.

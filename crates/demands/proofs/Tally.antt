@@ -17,9 +17,12 @@ use Rattle.layering.proofs.Sieve.{front}
 use Rattle.layering.proofs.Walk.{Conf, rest, left, pot, Moved as MovedRow, emits, quiet, moved as moved-row, falls}
 use Rattle.search.specs.declared.helper.Searched.{Searched}
 use Rattle.search.specs.declared.helper.Searched.the-variants.{At, Fault as SearchedFault}
+use Rattle.cursor.specs.declared.range_bound.StartMode.{StartMode}
+use Rattle.search.specs.declared.start.Started.{Started}
+use Rattle.search.specs.declared.start.Started.the-variants.{At as StartedAt, Enter as StartedEnter, Fault as StartedFault}
 use Rattle.search.specs.declared.traversal.Reached.{Reached}
 use Rattle.search.specs.declared.traversal.Reached.the-variants.{Leaf as ReachedLeaf, Fault as ReachedFault}
-use Rattle.moves.specs.Moves.{faulted, standing, startIn, findStart, retryIn, findRetry, handleDown, handleUp, advanceLeaf, Taken, kept, onward, emitKey, takeInline, takeSuffixed, takeLayer, takeSlot, unlessDup, backToRetry, findSlot, findNext}
+use Rattle.moves.specs.Moves.{faulted, standing, begin, startIn, findStart, retryIn, findRetry, handleDown, handleUp, advanceLeaf, Taken, kept, onward, emitKey, takeInline, takeSuffixed, takeLayer, takeSlot, unlessDup, backToRetry, findSlot, findNext}
 use Rattle.moves.specs.declared.scan_state.ScanState.{ScanState}
 use Rattle.moves.specs.declared.scan_state.ScanState.the-variants.{Start, Retry, FindNext, Down, Up}
 use Rattle.moves.specs.declared.scan_state.ScanCtx.{ScanCtx}
@@ -28,7 +31,7 @@ use Rattle.moves.specs.declared.scan_state.Outcome.the-variants.{Continue, Push
 use Rattle.moves.specs.declared.scan_state.Pass.{Pass}
 use Rattle.moves.specs.declared.forward_ctx.Duplicate.{Duplicate}
 use Rattle.moves.specs.declared.forward_ctx.Duplicate.the-variants.{No, Yes, Fault as DupFault}
-use Rattle.scan.specs.Machine.{Scan, Moved, moved, pushing, moveIn, move}
+use Rattle.scan.specs.Machine.{Scan, Moved, moved, movedBy, pushing, moveIn, move}
 use Rattle.scan.specs.Loop.{countedOn, keysIn}
 use Rattle.scan.specs.declared.scan_state.LayerContext.{LayerContext}
 use Rattle.demands.proofs.Relation.{resumed, Rep, Follows, goes-on, gives, ends}
@@ -65,10 +68,16 @@ fine-standing c leaf k dup last SearchedFault = fine-fault c
 
 module _ (image : List ℕ) (kind : ℕ) (bound : List ℕ) where
   module _ (buf : List ℕ) (c : ScanCtx) where
-    fine-start : (r : Reached) → Fine (startIn image c r)
-    unfolding startIn
-    fine-start (ReachedLeaf leaf) = fine-standing _ _ _ _ _ _
-    fine-start ReachedFault = fine-fault c
+    fine-begin : (mode : StartMode) (leaf : ℕ) (r : Started) → FineTaken (begin mode image buf c leaf r)
+    unfolding begin kept
+    fine-begin mode leaf (StartedAt p) = fine-standing _ _ _ _ _ _
+    fine-begin mode leaf (StartedEnter s) = λ b stack. tt
+    fine-begin mode leaf StartedFault = fine-fault c
+
+    fine-start : (mode : StartMode) (r : Reached) → FineTaken (startIn mode image buf c r)
+    unfolding startIn kept
+    fine-start mode (ReachedLeaf leaf) = fine-begin mode leaf _
+    fine-start mode ReachedFault = fine-fault c
 
     fine-retry : (r : Reached) → Fine (retryIn image buf c r)
     unfolding retryIn
@@ -122,8 +131,8 @@ module _ (image : List ℕ) (kind : ℕ) (bound : List ℕ) where
   fine-push Fault s f = tt
 
   fine-in : (z : ScanState) (s : Scan) → FineMove (moveIn z image kind bound s)
-  unfolding moveIn moved findStart findRetry handleDown
-  fine-in Start s = fine-start (s .buf) (s .ctx) _ _ _
+  unfolding moveIn moved movedBy findStart findRetry handleDown
+  fine-in (Start mode) s = fine-push _ _ (fine-start (s .buf) (s .ctx) mode _ _ _)
   fine-in Retry s = fine-retry (s .buf) (s .ctx) _ _ _
   fine-in Down s = tt
   fine-in Up s = pick-ind FineMove _ (λ t. tt) (λ t. fine-up (s .buf) _ _ _)

@@ -2,7 +2,7 @@
 -- admits what its argument does; and that what is left of a fresh walk is the row that demand 3 speaks of. Hence every
 -- list of steps, and the count of one loop of moves.
 use mathlib.Core.Path.{_≡_, refl, ap, sym, _∙_}
-use mathlib.Core.List.{List, [], append-nil}
+use mathlib.Core.List.{List, []}
 use mathlib.Core.Bool.{Bool, true, false, not}
 use Prim.Native.Nat.{ℕ, _+_, _*_, _%_, _≤_, _<_}
 use native.Mathlib.Omega.{arith}
@@ -24,25 +24,26 @@ use Rattle.layering.specs.Keys.{livePairs, leavesN, valuesN, layersN}
 use Rattle.layering.specs.Accepted.{Obeys}
 use Rattle.layering.specs.Ascending.{Ascending}
 use Rattle.layering.specs.Sieve.{sieve}
-use Rattle.layering.proofs.Row.{stop, keys, weight}
+use Rattle.layering.proofs.Row.{stop, weight}
 use Rattle.layering.proofs.Flat.{weighsN}
 use Rattle.layering.proofs.Size.{moves-fit}
 use Rattle.layering.proofs.Pairs.{row-pairs, pairs-ascend}
 use Rattle.layering.proofs.Sieve.{front, front-sieve, ascending-sieve}
 use Rattle.layering.proofs.Bound.{contains-closed}
-use Rattle.layering.proofs.Walk.{retry, bottom, above, rest, left, climb, pot}
-use Rattle.scan.specs.Machine.{startState, placeFault, freshWalk, place, isEnded, scanOf}
+use Rattle.layering.proofs.Walk.{Conf, seek, rest, left, pot}
+use Rattle.scan.specs.Machine.{shortState, startState, placeFault, freshWalk, place, isEnded, scanOf}
 use Rattle.scan.specs.Loop.{keysLeft}
-use Rattle.scan.specs.declared.scan_state.StartMode.{StartMode}
-use Rattle.scan.specs.declared.scan_state.StartMode.the-variants.{Above, From}
+use Rattle.cursor.specs.declared.range_bound.StartMode.{StartMode}
+use Rattle.cursor.specs.declared.range_bound.StartMode.the-variants.{Above, From}
+use Rattle.scan.specs.declared.scan_state.WalkState.{WalkState}
 use Rattle.scan.specs.declared.scan_state.Placed.{Placed}
 use Rattle.demands.specs.Demand.{past, rowOf, Call, steps, Lent, said, movesOf, due}
-use Rattle.demands.proofs.Begin.{Begun, begin}
+use Rattle.demands.proofs.Begin.{Begun, begin-at}
 use Rattle.demands.proofs.Steps.{admitted, Walks, going, all-steps, keys-left}
 
 -- THE PLACING. It was taken: cursor, kind and bound are in their limits, and the walk is fresh.
 pub record Limits (cursor : List ℕ) (kind : ℕ) (bound : List ℕ) : Type 0 where
-  pub short : length cursor ≤ 8
+  pub short : length cursor ≤ 256
   pub kinds : kind ≤ 2
   pub fits : length bound ≤ 256
 
@@ -54,13 +55,13 @@ module _ (image : List ℕ) (mode : StartMode) (cursor : List ℕ) (kind : ℕ) 
       let h : ℕ = headingFault image in
       pick-ind P (not (eqb h 0)) (λ t e. absurd (eqb-false h 0 (not-true (eqb h 0) t) e))
       (λ t.
-      pick-ind P (ltb 8 (length cursor)) (λ u e. absurd (omega arith))
+      pick-ind P (ltb 256 (length cursor)) (λ u e. absurd (omega arith))
       (λ u.
       pick-ind P (ltb 2 kind) (λ v e. absurd (omega arith))
       (λ v.
       pick-ind P (ltb 256 (length bound)) (λ w e. absurd (omega arith))
       (λ w e. record {
-        short = ltb-false 8 (length cursor) u;
+        short = ltb-false 256 (length cursor) u;
         kinds = ltb-false 2 kind v;
         fits = ltb-false 256 (length bound) w;
       }))))
@@ -78,7 +79,7 @@ module _ (image : List ℕ) (mode : StartMode) (cursor : List ℕ) (kind : ℕ) 
 
 -- an accepted image has no fault in its heading, so that a placing within the limits is taken
 pub takes : (image : List ℕ) → Obeys image → (mode : StartMode) (cursor : List ℕ) (kind : ℕ) (bound : List ℕ)
-    → length cursor ≤ 8 → kind ≤ 2 → length bound ≤ 256 → place image mode cursor kind bound .code ≡ 0
+    → length cursor ≤ 256 → kind ≤ 2 → length bound ≤ 256 → place image mode cursor kind bound .code ≡ 0
 unfolding place placeFault headingFault lengthOk pick
 takes image o mode cursor kind bound c k f =
     rw (
@@ -87,7 +88,7 @@ takes image o mode cursor kind bound c k f =
       eq-eqb (length image % 8) 0 (o .whole),
       eq-eqb (statedLength image) (length image) (o .stated),
       eq-eqb (edition image) 1 (o .first-edition),
-      le-ltb 8 (length cursor) c,
+      le-ltb 256 (length cursor) c,
       le-ltb 2 kind k,
       le-ltb 256 (length bound) f,
     )
@@ -114,6 +115,16 @@ module _ (kind : ℕ) (bound : List ℕ) where
       go true e = rw (eqb-true kind 0 e)
       go false e = ap (contains kind) (padded-take bound)
 
+-- a walk that was placed is not ended
+not-ended : (mode : StartMode) (n : ℕ) → isEnded (startState mode n) ≡ false
+unfolding isEnded startState shortState
+not-ended mode n =
+    pick-ind (λ (s : WalkState). isEnded s ≡ false) (ltb 8 n) (λ t. refl) (λ t. go mode)
+  where
+    go : (mode : StartMode) → isEnded (shortState mode) ≡ false
+    go Above = refl
+    go From = refl
+
 -- The moves that a walk makes in all, at most.
 abbrev pub limit : List ℕ → ℕ
 limit image = leavesN (treeOf image) + valuesN (treeOf image) + 4 * layersN (treeOf image) + 2
@@ -130,40 +141,39 @@ module _ (image : List ℕ) (b : (i : ℕ) → getD image i 0 < 256) (o : Obeys 
       ascending-sieve (contains kind bound) (sieve (past mode cursor) (livePairs image)) past-ascends
 
   module _ (bc : (i : ℕ) → getD cursor i 0 < 256) (kind : ℕ) (bound : List ℕ) (lim : Limits cursor kind bound) where
-    begun : Begun image mode cursor kind bound (boundOf kind bound .kind)
-        (take (boundOf kind bound .len) (boundOf kind bound .key))
+    begun : Begun image mode cursor (boundOf kind bound .kind)
+        (take (boundOf kind bound .len) (boundOf kind bound .key)) (scanOf (freshWalk image mode cursor kind bound))
     begun =
-        begin image b o cursor (lim .short) (bytes-of cursor bc) mode kind bound (boundOf kind bound .kind)
-        (take (boundOf kind bound .len) (boundOf kind bound .key))
+        begin-at image b o cursor (bytes-of cursor bc) (boundOf kind bound .kind)
+        (take (boundOf kind bound .len) (boundOf kind bound .key)) mode kind bound (lim .short)
+
+    -- where it stands
+    stage : Conf
+    stage = seek (begun .steps) (begun .pre) (begun .to) (begun .over)
 
     -- a fresh walk stands before its row
-    walks : Walks image (boundOf kind bound) (freshWalk image mode cursor kind bound) (retry [] (begun .to) bottom)
-    unfolding freshWalk scanOf fromSlice isEnded startState
+    walks : Walks image (boundOf kind bound) (freshWalk image mode cursor kind bound) stage
+    unfolding freshWalk scanOf fromSlice stage
     walks = record {
       same-length = refl;
       same-bound = refl;
       fit = record { deep = omega arith; offset = refl; fits = omega (arith, lim .short); place = omega arith };
-      stage = going (not-ended mode) (begun .rep);
+      stage = going (not-ended mode (length cursor)) (begun .rep);
     }
-      where
-        not-ended : (mode : StartMode) → isEnded (startState mode) ≡ false
-        not-ended Above = refl
-        not-ended From = refl
 
     -- what is left of it is the row
-    left-row : left (admitted (boundOf kind bound)) (retry [] (begun .to) bottom) ≡ rowOf image mode cursor kind bound
-    unfolding left rest above rowOf livePairs
+    left-row : left (admitted (boundOf kind bound)) stage ≡ rowOf image mode cursor kind bound
+    unfolding left rest rowOf livePairs stage
     left-row =
         ap (front (admitted (boundOf kind bound)))
-        (append-nil (keys [] (begun .to)) ∙ sym (begun .left)
-        ∙ ap (sieve (past mode cursor)) (row-pairs (treeOf image) []))
+        (sym (begun .left) ∙ ap (sieve (past mode cursor)) (row-pairs (treeOf image) []))
         ∙ ap (λ (t : List ℕ → Bool). front t (sieve (past mode cursor) (livePairs image))) (bound-admits kind bound)
         ∙ front-sieve (contains kind bound) (contains-closed kind bound) (sieve (past mode cursor) (livePairs image))
         past-ascends
 
     -- its potential
-    few-moves : pot (retry [] (begun .to) bottom) ≤ limit image
-    unfolding pot climb weight
+    few-moves : pot stage ≤ limit image
+    unfolding stage weight
     few-moves = omega (arith, begun .light, weighsN (treeOf image) stop (o .paths))
 
     -- EVERY LIST OF STEPS FROM A FRESH WALK
@@ -175,7 +185,7 @@ module _ (image : List ℕ) (b : (i : ℕ) → getD image i 0 < 256) (o : Obeys 
         let s =
         all-steps image (boundOf kind bound) (bound-kind kind bound (lim .kinds))
         (bound-length kind bound (lim .fits)) calls l (freshWalk image mode cursor kind bound)
-        (retry [] (begun .to) bottom) walks (omega (arith, few-moves, moves-fit image o)) in
+        stage walks (omega (arith, few-moves, moves-fit image o)) in
         (s .0 ∙ ap (due image calls) left-row, omega (arith, s .1, few-moves))
 
     -- ALL ITS MOVES IN ONE LOOP: as many keys as the row has
@@ -183,6 +193,6 @@ module _ (image : List ℕ) (b : (i : ℕ) → getD image i 0 < 256) (o : Obeys 
         ≡ length (rowOf image mode cursor kind bound)
     fresh-keys =
         keys-left image (boundOf kind bound) (bound-kind kind bound (lim .kinds)) (bound-length kind bound (lim .fits))
-        (freshWalk image mode cursor kind bound) (retry [] (begun .to) bottom) walks
+        (freshWalk image mode cursor kind bound) stage walks
         (omega (arith, few-moves, moves-fit image o))
         ∙ ap length left-row

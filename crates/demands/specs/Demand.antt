@@ -12,8 +12,8 @@ use Rattle.cursor.specs.RangeBound.{contains}
 use Rattle.layering.specs.Keys.{Pair, livePairs}
 use Rattle.layering.specs.Sieve.{sieve, isAbove, isFrom}
 use Rattle.lent.specs.Form.{Form, stepAs}
-use Rattle.scan.specs.declared.scan_state.StartMode.{StartMode}
-use Rattle.scan.specs.declared.scan_state.StartMode.the-variants.{Above, From}
+use Rattle.cursor.specs.declared.range_bound.StartMode.{StartMode}
+use Rattle.cursor.specs.declared.range_bound.StartMode.the-variants.{Above, From}
 use Rattle.scan.specs.declared.scan_state.Walk.{Walk}
 use Rattle.scan.specs.declared.scan_state.Answer.{Answer}
 use Rattle.scan.specs.declared.scan_state.Answer.the-variants.{Key, Nothing, Declined}

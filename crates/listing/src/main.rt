@@ -1,9 +1,9 @@
 // Lists an image: reads it from standard input, checks it, walks it from the empty name unbounded, and prints sheet edition 1; a
 // declined image prints only `refused n`. Lines are written as they come: there is no buffer for the whole sheet. Where the
 // output fails the program ends, and where the input fails it says so on standard error and lists nothing.
+use cursor::range_bound::StartMode;
 use node::trailer;
 use scan::scan_state::Answer;
-use scan::scan_state::StartMode;
 use scan::scan_state::Walk;
 use verify::Checked;
 

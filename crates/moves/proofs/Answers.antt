@@ -1,31 +1,30 @@
 -- What the answers of calls say of the image and of a definition's choices, for the proofs of the moves. Assumes nothing.
-use mathlib.Core.Path.{_≡_, sym, _∙_}
+use mathlib.Core.Path.{_≡_, ap, sym, _∙_, subst}
 use mathlib.Core.Bool.{Bool, true, false, not}
 use mathlib.Core.List.{List}
-use Prim.Native.Nat.{ℕ, _+_, _≤_}
+use Prim.Native.Nat.{ℕ, _+_, _≤_, _<_}
 use native.Mathlib.Omega.{arith}
-use borrow.Author.Tests.{not-true, not-false}
 use lib.ListN.{length, length-take, length-drop}
+use Rattle.base.proofs.Choice.{found-so}
 use Rattle.key.specs.Part.{part}
 use Rattle.node.specs.Layout.{suffixAt}
 use Rattle.node.specs.declared.permuter.Slot.{Slot}
 use Rattle.search.specs.Traversal.{leafThere, reach}
 use Rattle.search.specs.Helper.{suffixReadable, suffixBytes}
+use Rattle.search.specs.Start.{startPosition}
 use Rattle.search.specs.declared.traversal.Reached.{Reached}
 use Rattle.search.specs.declared.traversal.Reached.the-variants.{Leaf as ReachedLeaf}
-use Rattle.search.proofs.TraversalLaws.{in-image}
+use Rattle.search.proofs.Answers.{suffix-in}
 use Rattle.search.proofs.Laws.{leaf-there, reach-leaf}
-use Rattle.moves.specs.Moves.{passIn, InBuffer}
+use Rattle.search.proofs.StartLaws.{enter-within}
+use Rattle.cursor.specs.declared.cursor_key.CursorPlace.{CursorPlace}
+use Rattle.cursor.specs.declared.range_bound.StartMode.{StartMode}
+use Rattle.search.specs.declared.start.Started.{Started}
+use Rattle.search.specs.declared.start.Started.the-variants.{Enter}
+use Rattle.moves.specs.Moves.{Taken, begin, startIn, findStart, passIn, InBuffer}
+use Rattle.moves.specs.declared.scan_state.Pass.{Pass}
 use Rattle.moves.specs.declared.scan_state.ScanState.{ScanState}
 use Rattle.moves.specs.declared.scan_state.ScanCtx.{ScanCtx}
-
--- what a call's answer r says of the test b, where the code tests `!r`
-module _ (b r : Bool) (e : r ≡ b) where
-  pub found-so : not r ≡ false → b ≡ true
-  found-so f = sym e ∙ not-false r f
-
-  pub found-not : not r ≡ true → b ≡ false
-  found-not t = sym e ∙ not-true r t
 
 module _ (image : List ℕ) (leaf : ℕ) where
   -- a leaf that a call found to stand there lies in the image
@@ -38,13 +37,9 @@ module _ (image : List ℕ) (leaf : ℕ) where
 
   -- a suffix that may be read lies in the image, so that as many bytes are read as it has
   module _ (s : Slot) (h : suffixReadable image leaf s ≡ true) where
-    pub suffix-in : suffixAt image leaf s .start + suffixAt image leaf s .len + 32 ≤ length image
-    unfolding suffixReadable
-    suffix-in = in-image image (suffixAt image leaf s .start) (suffixAt image leaf s .len) h .1
-
     pub suffix-length : length (suffixBytes image leaf s) ≡ suffixAt image leaf s .len
     unfolding suffixBytes part
-    suffix-length = simp (length-take, length-drop) (omega (arith, suffix-in))
+    suffix-length = simp (length-take, length-drop) (omega (arith, suffix-in image leaf s h))
 
 -- A move, and what it asks, by the state that the code matched.
 module _ (s v : ScanState) (e : s ≡ v) (c : ScanCtx) where
@@ -53,3 +48,24 @@ module _ (s v : ScanState) (e : s ≡ v) (c : ScanCtx) where
 
   pub asked-in : InBuffer s c → InBuffer v c
   asked-in h = rw (← e) h
+
+-- What a call returned, r, and left in the buffer, b, are a pass's.
+abbrev pub Gives : Taken → Pass → List ℕ → Type 0
+Gives t r b = (r ≡ t .pass) × (b ≡ t .buf)
+
+-- Start, by the answers that the code matched: where the descent came to, and the search in the leaf.
+module _ (mode : StartMode) (image buf : List ℕ) (c : ScanCtx) where
+  pub start-as : (leaf : ℕ) (o v : Started) → o ≡ startPosition mode image leaf (c .cursor) buf → o ≡ v
+      → {r : Pass} {b : List ℕ} → Gives (begin mode image buf c leaf v) r b → Gives (startIn mode image buf c (ReachedLeaf leaf)) r b
+  unfolding startIn
+  start-as leaf o v e f {r} {b} g = subst (λ (t : Taken). Gives t r b) (ap (begin mode image buf c leaf) (sym (sym e ∙ f))) g
+
+  pub find-as : (o v : Reached) → o ≡ reach image (c .cursor .ikey) (c .root) → o ≡ v
+      → {r : Pass} {b : List ℕ} → Gives (startIn mode image buf c v) r b → Gives (findStart mode image buf c) r b
+  unfolding findStart
+  find-as o v e f {r} {b} g = subst (λ (t : Taken). Gives t r b) (ap (startIn mode image buf c) (sym (sym e ∙ f))) g
+
+-- a layer that is entered: its slot is one of the fifteen, and more than eight bytes are left
+pub enters-in : (mode : StartMode) (image buf : List ℕ) (k : CursorPlace) (leaf : ℕ) (o : Started) (s : Slot)
+    → o ≡ startPosition mode image leaf k buf → o ≡ Enter s → (s .0 < 15) × (8 < k .len)
+enters-in mode image buf k leaf o s e f = enter-within mode image leaf k buf s (sym e ∙ f)

@@ -1,6 +1,6 @@
 -- What the loop cites: `move-in-range`, a move from numbers in range leaves them in range and the buffer at its length; and the
 -- same of the loop's own steps between moves. Assumes nothing.
-use mathlib.Core.Path.{_≡_, refl, sym, subst}
+use mathlib.Core.Path.{_≡_, refl, sym, _∙_, subst}
 use mathlib.Core.Bool.{Bool, true}
 use mathlib.Core.List.{List}
 use Prim.Native.Nat.{ℕ, _+_, _*_, _-_, _≤_, _<_}
@@ -14,16 +14,21 @@ use Rattle.node.specs.Layout.{permutationAt, keylenxAt, suffixAt}
 use Rattle.node.specs.Permuter.{sizeOf}
 use Rattle.node.specs.declared.permuter.Position.{Position}
 use Rattle.node.specs.declared.permuter.Slot.{Slot}
-use Rattle.cursor.specs.CursorKey.{shiftClear, unshift, withIkey, withLength, storeIkey, storeSuffix}
+use Rattle.cursor.specs.CursorKey.{shift, shiftClear, unshift, withIkey, withLength, storeIkey, storeSuffix}
 use Rattle.cursor.specs.declared.cursor_key.CursorPlace.{CursorPlace}
 use Rattle.search.specs.Traversal.{reach}
 use Rattle.search.specs.Helper.{suffixReadable}
+use Rattle.search.specs.Start.{startPosition}
 use Rattle.search.specs.declared.helper.Searched.{Searched}
 use Rattle.search.specs.declared.helper.Searched.the-variants.{At, Fault as SearchedFault}
+use Rattle.cursor.specs.declared.range_bound.StartMode.{StartMode}
+use Rattle.search.specs.declared.start.Started.{Started}
+use Rattle.search.specs.declared.start.Started.the-variants.{At as StartedAt, Enter as StartedEnter, Fault as StartedFault}
 use Rattle.search.specs.declared.traversal.Reached.{Reached}
 use Rattle.search.specs.declared.traversal.Reached.the-variants.{Leaf as ReachedLeaf, Fault as ReachedFault}
-use Rattle.search.proofs.Laws.{start-within, lower-within}
-use Rattle.moves.specs.Moves.{faulted, standing, startIn, findStart, retryIn, findRetry, handleDown, handleUp, advanceLeaf, Taken, kept, onward, emitKey, takeInline, takeSuffixed, takeLayer, takeSlot, unlessDup, backToRetry, findSlot, findNext, passIn, InBuffer}
+use Rattle.search.proofs.Laws.{lower-within}
+use Rattle.search.proofs.StartLaws.{start-within, enter-within}
+use Rattle.moves.specs.Moves.{faulted, standing, begin, startIn, findStart, retryIn, findRetry, handleDown, handleUp, advanceLeaf, Taken, kept, onward, emitKey, takeInline, takeSuffixed, takeLayer, takeSlot, unlessDup, backToRetry, findSlot, findNext, passIn, InBuffer}
 use Rattle.moves.specs.declared.scan_state.ScanState.{ScanState}
 use Rattle.moves.specs.declared.scan_state.ScanState.the-variants.{Start, Retry, FindNext, Down, Up}
 use Rattle.moves.specs.declared.scan_state.ScanCtx.{ScanCtx}
@@ -44,7 +49,7 @@ pub record InRange (layer : ℕ) (c : ScanCtx) : Type 0 where
 -- At the loop's head, by the state: the cursor stands at the place of the layer that `depth` counts; for Down that layer has
 -- been entered and the cursor has yet to follow.
 abbrev pub Between : ScanState → ScanCtx → Type 0
-Between Start c = InRange (c .depth) c
+Between (Start mode) c = InRange (c .depth) c
 Between Retry c = InRange (c .depth) c
 Between FindNext c = InRange (c .depth) c
 Between Down c = (0 < c .depth) × (c .depth ≤ 31) × InRange (c .depth - 1) c
@@ -52,47 +57,62 @@ Between Up c = InRange (c .depth) c
 
 -- Before a move: the same, but for Up the loop has popped, and the cursor has yet to follow.
 abbrev pub Before : ScanState → ScanCtx → Type 0
-Before Start c = InRange (c .depth) c
+Before (Start mode) c = InRange (c .depth) c
 Before Retry c = InRange (c .depth) c
 Before FindNext c = InRange (c .depth) c
 Before Down c = (0 < c .depth) × (c .depth ≤ 31) × InRange (c .depth - 1) c
 Before Up c = InRange (c .depth + 1) c
 
--- After a move, by its outcome. On Push the loop has yet to enter the layer; after a key comes
--- FindNext; a fault ends the walk.
+-- On Push the loop has yet to enter the layer; Start's cursor has gone there already, and Down's has yet to follow.
+abbrev pub Entering : ScanState → ScanCtx → Type 0
+Entering (Start mode) c = InRange (c .depth + 1) c
+Entering Retry c = ⊥
+Entering FindNext c = ⊥
+Entering Down c = InRange (c .depth) c
+Entering Up c = ⊥
+
+-- After a move, by its outcome. After a key comes FindNext; a fault ends the walk.
 abbrev pub After : Outcome → ScanCtx → Type 0
 After Continue c = Between (c .state) c
-After (Push root) c = (c .state ≡ Down) × (c .depth < 31) × InRange (c .depth) c
+After (Push root) c = Entering (c .state) c × (c .depth < 31)
 After (Emit value) c = (c .state ≡ FindNext) × InRange (c .depth) c
 After Exhausted c = InRange (c .depth) c
 After Fault c = Unit {0}
 
 -- THE LOOP'S OWN STEPS between moves: it does nothing, pops, or enters. d is what it makes of c.
 pub not-up : (s : ScanState) (c : ScanCtx) → (s ≡ Up → ⊥) → Between s c → Before s c
-not-up Start c n h = h
+not-up (Start mode) c n h = h
 not-up Retry c n h = h
 not-up FindNext c n h = h
 not-up Down c n h = h
 not-up Up c n h = absurd (n refl)
 
-module _ (c d : ScanCtx) (k : d .cursor ≡ c .cursor) (p : d .position ≡ c .position) (h : InRange (c .depth) c) where
-  moved : (n : ℕ) → n ≡ c .depth → InRange n d
-  moved n e = record { place = rw (k, e) (h .place); deep = rw e (h .deep); within = rw k (h .within); position = rw p (h .position) }
+module _ (c d : ScanCtx) (k : d .cursor ≡ c .cursor) (p : d .position ≡ c .position) where
+  moved : (m n : ℕ) → InRange m c → n ≡ m → InRange n d
+  moved m n h e = record { place = rw (k, e) (h .place); deep = rw e (h .deep); within = rw k (h .within); position = rw p (h .position) }
 
-  pub popped-in-range : 0 < c .depth → d .depth ≡ c .depth - 1 → Before Up d
-  popped-in-range g e = moved (d .depth + 1) (omega arith)
+  pub popped-in-range : InRange (c .depth) c → 0 < c .depth → d .depth ≡ c .depth - 1 → Before Up d
+  popped-in-range h g e = moved (c .depth) (d .depth + 1) h (omega arith)
 
-  pub entered-in-range : c .depth < 31 → d .depth ≡ c .depth + 1 → Between Down d
-  entered-in-range g e = (omega arith, omega arith, moved (d .depth - 1) (omega arith))
+  pub entered-in-range : (s : ScanState) → Entering s c → c .depth < 31 → d .depth ≡ c .depth + 1 → Between s d
+  entered-in-range (Start mode) h g e = moved (c .depth + 1) (d .depth) h e
+  entered-in-range Retry h g e = absurd h
+  entered-in-range FindNext h g e = absurd h
+  entered-in-range Down h g e = (omega arith, omega arith, moved (c .depth) (d .depth - 1) h (omega arith))
+  entered-in-range Up h g e = absurd h
 
 -- What a move asks of its caller.
 pub asked : (s : ScanState) (c : ScanCtx) → Before s c → InBuffer s c
 unfolding InBuffer
-asked Start c h = tt
+asked (Start mode) c h = h .within
 asked Retry c h = h .within
 asked FindNext c h = (h .position, omega arith, h .within)
 asked Down c h = omega (arith, h .2 .place)
 asked Up c h = (omega arith, omega arith)
+
+-- a search that stands: its position as Start's
+started-at : {p q : Position} → At p ≡ At q → StartedAt p ≡ StartedAt q
+started-at e = cc
 
 -- EACH MOVE.
 abbrev Good : Pass → Type 0
@@ -127,14 +147,6 @@ unfolding handleDown shiftClear
 down c h = record { place = omega (arith, h .2 .place); deep = h .1; within = omega (arith, h .2 .place); position = h .2 .position }
 
 module _ (image : List ℕ) (c : ScanCtx) where
-  start : InRange (c .depth) c → Good (findStart image c)
-  unfolding findStart startIn
-  start h = go (reach image (c .cursor .ikey) (c .root))
-    where
-      go : (r : Reached) → Good (startIn image c r)
-      go (ReachedLeaf leaf) = stands c (c .cursor) (h .place) (h .deep) (h .within) leaf _ _ _ (λ p e. omega (arith, start-within image leaf (c .cursor) p e))
-      go ReachedFault = faults c
-
   module _ (buf : List ℕ) where
     retry : InRange (c .depth) c → Good (findRetry image buf c)
     unfolding findRetry retryIn
@@ -172,6 +184,30 @@ module _ (image : List ℕ) (kind : ℕ) (bound buf : List ℕ) (c : ScanCtx) (h
   unfolding kept
   keeps-fault = (faults c, l)
 
+  start : (mode : StartMode) → Leaves (findStart mode image buf c)
+  unfolding findStart startIn begin kept shift
+  start mode = go (reach image (c .cursor .ikey) (c .root))
+    where
+      comes : (leaf : ℕ) (o : Started) → startPosition mode image leaf (c .cursor) buf ≡ o → Leaves (begin mode image buf c leaf o)
+      comes leaf (StartedAt p) e = (
+        stands c (c .cursor) (h .place) (h .deep) (h .within) leaf _ _ _
+            (λ q f. omega (arith, start-within mode image leaf (c .cursor) buf q (e ∙ started-at f))),
+        l,
+      )
+      comes leaf (StartedEnter s) e =
+          let g = enter-within mode image leaf (c .cursor) buf s e in (
+            (
+              record { place = omega (arith, h .place); deep = omega (arith, h .place, h .within, g .1); within = omega (arith, h .within, g .1); position = h .position },
+              omega (arith, h .place, h .within, g .1),
+            ),
+            stored buf _ _ l (omega (arith, h .within, g .1)),
+          )
+      comes leaf StartedFault e = keeps-fault
+
+      go : (r : Reached) → Leaves (startIn mode image buf c r)
+      go (ReachedLeaf leaf) = comes leaf _ refl
+      go ReachedFault = keeps-fault
+
   -- a slot that the walk's position names
   module _ (s : Slot) (room : c .position .0 < 15) where
     inline : keylenxAt image (c .leaf) s ≤ 8 → Leaves (takeInline image kind bound buf c s)
@@ -188,7 +224,7 @@ module _ (image : List ℕ) (kind : ℕ) (bound buf : List ℕ) (c : ScanCtx) (h
 
     layer : c .depth < 31 → Leaves (takeLayer image buf c s)
     unfolding takeLayer withIkey
-    layer g = ((refl, g, record { place = h .place; deep = h .deep; within = h .within; position = h .position }), stored buf _ _ l (omega arith))
+    layer g = ((record { place = h .place; deep = h .deep; within = h .within; position = h .position }, g), stored buf _ _ l (omega arith))
 
     takes : Leaves (takeSlot image kind bound buf c s)
     unfolding takeSlot
@@ -223,7 +259,7 @@ pub move-in-range : (s : ScanState) (image : List ℕ) (kind : ℕ) (bound buf :
     → After (passIn s image kind bound buf c .pass .outcome) (passIn s image kind bound buf c .pass .ctx)
     × (length (passIn s image kind bound buf c .buf) ≡ 256)
 unfolding passIn kept
-move-in-range Start image kind bound buf c h l = (start image c h, l)
+move-in-range (Start mode) image kind bound buf c h l = start image kind bound buf c h l mode
 move-in-range Retry image kind bound buf c h l = (retry image c buf h, l)
 move-in-range FindNext image kind bound buf c h l = next image kind bound buf c h l
 move-in-range Down image kind bound buf c h l = (down c h, l)

@@ -1,4 +1,5 @@
--- The lemma files of this crate: what its own proofs cite, and what the loop cites.
+-- The lemma files of this crate: what its own proofs cite, and what the loop cites; `ByRule01` is a theorem.
 pub mod Answers
 pub mod Laws
 pub mod FastLaws
+pub mod ByRule01

@@ -10,15 +10,19 @@ use Rattle.base.specs.Pick.{pick}
 use Rattle.node.specs.Permuter.{sizeOf, slotAt}
 use Rattle.node.specs.Layout.{permutationAt, ikeyAt, keylenxAt, valueAt, liveAt, suffixAt, nextAt}
 use Rattle.node.specs.declared.permuter.Slot.{Slot}
-use Rattle.cursor.specs.CursorKey.{shiftClear, unshift, hasSuffix, compareSlot, withIkey, withLength, storeIkey, storeSuffix}
+use Rattle.cursor.specs.CursorKey.{shift, shiftClear, unshift, hasSuffix, compareSlot, withIkey, withLength, storeIkey, storeSuffix}
 use Rattle.cursor.specs.RangeBound.{contains}
 use Rattle.cursor.specs.declared.cursor_key.CursorPlace.{CursorPlace}
 use Rattle.search.specs.Traversal.{leafThere, reach}
-use Rattle.search.specs.Helper.{position, slotIn, byOrder, suffixReadable, suffixBytes, storedOrder, lowerWithSuffix, startPosition}
+use Rattle.search.specs.Helper.{position, slotIn, byOrder, suffixReadable, suffixBytes, storedOrder, lowerWithSuffix}
+use Rattle.search.specs.Start.{startPosition}
 use Rattle.search.specs.declared.helper.StoredOrder.{StoredOrder}
 use Rattle.search.specs.declared.helper.StoredOrder.the-variants.{Less as SuffixLess, Equal as SuffixEqual, Greater as SuffixGreater, NoSuffix, Fault as SuffixFault}
 use Rattle.search.specs.declared.helper.Searched.{Searched}
 use Rattle.search.specs.declared.helper.Searched.the-variants.{At, Fault as SearchedFault}
+use Rattle.cursor.specs.declared.range_bound.StartMode.{StartMode}
+use Rattle.search.specs.declared.start.Started.{Started}
+use Rattle.search.specs.declared.start.Started.the-variants.{At as StartedAt, Enter as StartedEnter, Fault as StartedFault}
 use Rattle.search.specs.declared.traversal.Reached.{Reached}
 use Rattle.search.specs.declared.traversal.Reached.the-variants.{Leaf as ReachedLeaf, Fault as ReachedFault}
 use Rattle.moves.specs.declared.scan_state.ScanState.{ScanState}
@@ -40,14 +44,43 @@ standing c leaf k dup last (At p) =
     record { outcome = Continue; ctx = record { root = c .root; leaf = leaf; position = p; cursor = k; depth = c .depth; state = FindNext; dup = dup; last = last } }
 standing c leaf k dup last SearchedFault = faulted c
 
--- "Start: as above; Retry the same, but past an equal slot too. Both go to FindNext." Retry asks for the duplicate check, Start
--- does not ("no duplicate check").
-unfoldable pub startIn : List ℕ → ScanCtx → Reached → Pass
-startIn image c (ReachedLeaf leaf) = standing c leaf (c .cursor) (c .dup) (c .last) (startPosition image leaf (c .cursor))
-startIn image c ReachedFault = faulted c
+-- A pass with the buffer after it. Only a slot that is taken, or whose layer is entered, changes the buffer.
+pub record Taken : Type 0 where
+  pub pass : Pass
+  pub buf : List ℕ
 
-unfoldable pub findStart : List ℕ → ScanCtx → Pass
-findStart image c = startIn image c (reach image (c .cursor .ikey) (c .root))
+unfoldable pub kept : List ℕ → Pass → Taken
+kept buf p = record { pass = p; buf = buf }
+
+-- "Start: as above; Retry the same, but past an equal slot too. Both go to FindNext." Retry asks for the duplicate check, Start
+-- does not ("no duplicate check"). "one Start move is made for the root and one for each sub-layer that the cursor's bytes lead
+-- into, and the parents are kept so that the way up works": a layer is entered within the move, and Start is next again.
+unfoldable pub begin : StartMode → List ℕ → List ℕ → ScanCtx → ℕ → Started → Taken
+begin mode image buf c leaf (StartedAt p) = kept buf (standing c leaf (c .cursor) (c .dup) (c .last) (At p))
+begin mode image buf c leaf (StartedEnter s) = record {
+  pass = record {
+    outcome = Push (valueAt image leaf s);
+    ctx = record {
+      root = c .root;
+      leaf = leaf;
+      position = c .position;
+      cursor = shift (c .cursor) buf;
+      depth = c .depth;
+      state = Start mode;
+      dup = c .dup;
+      last = c .last;
+    };
+  };
+  buf = storeIkey buf (c .cursor .offset) (c .cursor .ikey);
+}
+begin mode image buf c leaf StartedFault = kept buf (faulted c)
+
+unfoldable pub startIn : StartMode → List ℕ → List ℕ → ScanCtx → Reached → Taken
+startIn mode image buf c (ReachedLeaf leaf) = begin mode image buf c leaf (startPosition mode image leaf (c .cursor) buf)
+startIn mode image buf c ReachedFault = kept buf (faulted c)
+
+unfoldable pub findStart : StartMode → List ℕ → List ℕ → ScanCtx → Taken
+findStart mode image buf c = startIn mode image buf c (reach image (c .cursor .ikey) (c .root))
 
 unfoldable pub retryIn : List ℕ → List ℕ → ScanCtx → Reached → Pass
 retryIn image buf c (ReachedLeaf leaf) = standing c leaf (c .cursor) true (c .last) (lowerWithSuffix image leaf (c .cursor) buf)
@@ -95,14 +128,6 @@ dupOf image buf c s =
 -- The check is made where Retry, Down or Up asked for it.
 abbrev pub dupDue : List ℕ → List ℕ → ScanCtx → Slot → Duplicate
 dupDue image buf c s = pick (c .dup) (dupOf image buf c s) No
-
--- A pass with the buffer after it. Only a slot that is taken changes the buffer.
-pub record Taken : Type 0 where
-  pub pass : Pass
-  pub buf : List ℕ
-
-unfoldable pub kept : List ℕ → Pass → Taken
-kept buf p = record { pass = p; buf = buf }
 
 -- A slot that has been passed: position one on.
 unfoldable pub onward : ScanCtx → CursorPlace → ℕ → ScanCtx
@@ -197,7 +222,7 @@ findNext image kind bound buf c =
 
 -- One move in each state; before Up the layer above has been taken back.
 unfoldable pub passIn : ScanState → List ℕ → ℕ → List ℕ → List ℕ → ScanCtx → Taken
-passIn Start image kind bound buf c = kept buf (findStart image c)
+passIn (Start mode) image kind bound buf c = findStart mode image buf c
 passIn Retry image kind bound buf c = kept buf (findRetry image buf c)
 passIn FindNext image kind bound buf c = findNext image kind bound buf c
 passIn Down image kind bound buf c = kept buf (handleDown c)
@@ -205,7 +230,7 @@ passIn Up image kind bound buf c = kept buf (handleUp image buf c)
 
 -- What a move asks of the numbers: the key within the buffer, and a layer above for Up.
 unfoldable pub InBuffer : ScanState → ScanCtx → Type 0
-InBuffer Start c = Unit {0}
+InBuffer (Start mode) c = c .cursor .offset + c .cursor .len ≤ 256
 InBuffer Retry c = c .cursor .offset + c .cursor .len ≤ 256
 InBuffer FindNext c = (c .position .0 ≤ 15) × (c .cursor .offset ≤ 248) × (c .cursor .offset + c .cursor .len ≤ 256)
 InBuffer Down c = c .cursor .offset ≤ 256

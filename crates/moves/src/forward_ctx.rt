@@ -6,6 +6,7 @@ use crate::scan_state::ScanCtx;
 use crate::scan_state::ScanState;
 use cursor::cursor_key::CursorPlace;
 use cursor::range_bound;
+use cursor::range_bound::StartMode;
 use key::Ordering;
 use node::leaf;
 use node::permuter;
@@ -14,6 +15,8 @@ use node::permuter::Slot;
 use search::helper;
 use search::helper::Searched;
 use search::helper::StoredOrder;
+use search::start;
+use search::start::Started;
 use search::traversal;
 use search::traversal::Reached;
 ghost use mathlib.Core.Path.{_≡_};
@@ -23,7 +26,9 @@ ghost use lib.ListN.{length};
 ghost use Rattle.node.specs.Layout.{InLeaf, InSlot, keylenxAt, suffixAt};
 ghost use Rattle.search.specs.Traversal.{leafThere};
 ghost use Rattle.search.specs.Helper.{suffixReadable};
-ghost use Rattle.moves.specs.Moves.{faulted, standing, findStart, findRetry, handleDown, handleUp, advanceLeaf, dupLevel, dupOf, dupDue, onward, emitKey, takeInline, takeSuffixed, takeLayer, takeSlot, backToRetry, findSlot, findNext, MoveOk, passIn};
+ghost use Rattle.search.specs.declared.start.Started.the-variants.{Enter};
+ghost use Rattle.search.specs.declared.traversal.Reached.the-variants.{Leaf};
+ghost use Rattle.moves.specs.Moves.{faulted, standing, begin, startIn, findStart, findRetry, handleDown, handleUp, advanceLeaf, dupLevel, dupOf, dupDue, onward, emitKey, takeInline, takeSuffixed, takeLayer, takeSlot, backToRetry, findSlot, findNext, MoveOk, passIn};
 
 // The duplicate check's answer: the slot is new to the walk; the cursor has come to it or passed it; it cannot be read.
 pub enum Duplicate {
@@ -64,17 +69,63 @@ fn stand(c: ScanCtx, leaf: u64, k: CursorPlace, dup: bool, last: u64, found: Sea
     }
 }
 
-// Start: the first slot that is not below the cursor. No duplicate check.
-pub fn find_start(image: &[u8], c: ScanCtx) -> Pass
-    ensures { λ r. ⌜ r ≡ findStart (now (image .entry)) c ⌝ }
+// Start enters the layer of a slot that the cursor's own bytes lead into: its ikey in the cursor; the loop stacks root and leaf.
+fn lead_in(
+    image: &[u8],
+    buf: &mut [u8; 256],
+    c: ScanCtx,
+    leaf: u64,
+    slot: Slot,
+    mode: StartMode,
+) -> Pass
+    requires { ⌜ InSlot (now image) leaf slot ⌝ }
+    requires { ⌜ 8 < c .cursor .len ⌝ }
+    requires { ⌜ c .cursor .offset + c .cursor .len ≤ 256 ⌝ }
+    ensures { λ r. ⌜ (r ≡ begin mode (now (image .entry)) (now (buf .entry)) c leaf (Enter slot) .pass) × (now (buf .exit) ≡ begin mode (now (image .entry)) (now (buf .entry)) c leaf (Enter slot) .buf) ⌝ }
+{
+    let k = c.cursor;
+    let position = c.position;
+    let rest = k.shift(buf);
+    let stored = k.assign_store_ikey(buf, k.ikey);
+    Pass {
+        outcome: Outcome::Push(leaf::value(image, leaf as usize, slot)),
+        ctx: ScanCtx {
+            root: c.root,
+            leaf: leaf,
+            position: position,
+            cursor: rest,
+            depth: c.depth,
+            state: ScanState::Start(mode),
+            dup: c.dup,
+            last: c.last,
+        },
+    }
+}
+
+// Start in the leaf that the descent came to. No duplicate check.
+fn start_in(image: &[u8], buf: &mut [u8; 256], c: ScanCtx, leaf: u64, mode: StartMode) -> Pass
+    requires { ⌜ InLeaf (now image) leaf ⌝ }
+    requires { ⌜ c .cursor .offset + c .cursor .len ≤ 256 ⌝ }
+    ensures { λ r. ⌜ (r ≡ startIn mode (now (image .entry)) (now (buf .entry)) c (Leaf leaf) .pass) × (now (buf .exit) ≡ startIn mode (now (image .entry)) (now (buf .entry)) c (Leaf leaf) .buf) ⌝ }
+{
+    let k = c.cursor;
+    let found = start::start_position(mode, image, leaf as usize, k, buf);
+    match found {
+        Started::At(p) => stand(c, leaf, k, c.dup, c.last, Searched::At(p)),
+        Started::Enter(slot) => lead_in(image, buf, c, leaf, slot, mode),
+        Started::Fault => fault_at(c),
+    }
+}
+
+// Start: the first slot that is not passed over, or the layer that the cursor's bytes lead into.
+pub fn find_start(image: &[u8], buf: &mut [u8; 256], c: ScanCtx, mode: StartMode) -> Pass
+    requires { ⌜ c .cursor .offset + c .cursor .len ≤ 256 ⌝ }
+    ensures { λ r. ⌜ (r ≡ findStart mode (now (image .entry)) (now (buf .entry)) c .pass) × (now (buf .exit) ≡ findStart mode (now (image .entry)) (now (buf .entry)) c .buf) ⌝ }
 {
     let k = c.cursor;
     let reached = traversal::reach_leaf_for_scan(image, c.root, k.ikey);
     match reached {
-        Reached::Leaf(leaf) => {
-            let found = helper::start_position(image, leaf as usize, k);
-            stand(c, leaf, k, c.dup, c.last, found)
-        }
+        Reached::Leaf(leaf) => start_in(image, buf, c, leaf, mode),
         Reached::Fault => fault_at(c),
     }
 }
@@ -471,7 +522,7 @@ pub fn one_move(image: &[u8], kind: u8, bound: &[u8], buf: &mut [u8; 256], c: Sc
 {
     let state = c.state;
     match state {
-        ScanState::Start => find_start(image, c),
+        ScanState::Start(mode) => find_start(image, buf, c, mode),
         ScanState::Retry => find_retry(image, buf, c),
         ScanState::FindNext => find_next(image, kind, bound, buf, c),
         ScanState::Down => handle_down(c),

@@ -1,10 +1,11 @@
 // What the loop has between two moves (the Rust's scan_state.rs).
 use cursor::cursor_key::CursorPlace;
+use cursor::range_bound::StartMode;
 use node::permuter::Position;
 
-// What the loop does next: the Rust's states without Emit, and Start.
+// What the loop does next: the Rust's states without Emit, and Start, which goes by the walk's start mode.
 pub enum ScanState {
-    Start,
+    Start(StartMode),
     Retry,
     FindNext,
     Down,

@@ -10,10 +10,12 @@ use lib.ListN.{length, getD}
 use borrow.Author.Tests.{le-leb}
 use Rattle.base.specs.Pick.{pick}
 use Rattle.scan.specs.Machine.{emptyContext}
+use Rattle.cursor.specs.declared.range_bound.StartMode.{StartMode}
+use Rattle.cursor.specs.declared.range_bound.StartMode.the-variants.{Above, From}
 use Rattle.scan.specs.declared.scan_state.Walk.{Walk}
 use Rattle.scan.specs.declared.scan_state.WalkState.{WalkState}
 use Rattle.scan.specs.declared.scan_state.WalkState.the-variants.{Start, Retry, FindNext, Ended}
-use Rattle.punchbronze.specs.Record.{stateNumber, stateOf, stackNumbers, numbersOf, entryAt, entries, readWalk, sized, isRecord}
+use Rattle.punchbronze.specs.Record.{modeNumber, modeOf, stateNumber, stateOf, stackNumbers, numbersOf, entryAt, entries, readWalk, sized, isRecord}
 use Rattle.punchbronze.proofs.Tabled.{tabled, tabled-all}
 use Rattle.punchbronze.proofs.Told.{record-told}
 
@@ -23,6 +25,22 @@ state-back Start = refl
 state-back Retry = refl
 state-back FindNext = refl
 state-back Ended = refl
+
+mode-back : (m : StartMode) → modeOf (modeNumber m) ≡ m
+unfolding modeOf modeNumber pick
+mode-back Above = refl
+mode-back From = refl
+
+mode-fits : (m : StartMode) → leb (modeNumber m) 1 ≡ true
+unfolding modeNumber
+mode-fits Above = refl
+mode-fits From = refl
+
+mode-number-back : (n : ℕ) → n ≤ 1 → modeNumber (modeOf n) ≡ n
+unfolding modeOf modeNumber pick
+mode-number-back zero h = refl
+mode-number-back (suc zero) h = refl
+mode-number-back (suc (suc n)) h = absurd (omega arith)
 
 state-fits : (s : WalkState) → leb (stateNumber s) 3 ≡ true
 unfolding stateNumber
@@ -53,11 +71,11 @@ stack-back w a = tabled-all emptyContext (w .stack) 31 (a .stack-is)
 
 is-record : (w : Walk) → Arrays w → isRecord (numbersOf w) (w .cursor .buf) (w .bound .key) ≡ true
 unfolding isRecord sized numbersOf stackNumbers
-is-record w a = rw (a .buf-is, a .key-is, le-leb _ _ (a .kind-fits), state-fits (w .state))
+is-record w a = rw (a .buf-is, a .key-is, le-leb _ _ (a .kind-fits), state-fits (w .state), mode-fits (w .mode))
 
 walk-back : (w : Walk) → Arrays w → readWalk (numbersOf w) (w .cursor .buf) (w .bound .key) ≡ w
 unfolding readWalk numbersOf
-walk-back w a = rw (stack-back w a, state-back (w .state))
+walk-back w a = rw (stack-back w a, state-back (w .state), mode-back (w .mode))
 
 pub record-inverse : (w : Walk) → Arrays w
     → (isRecord (numbersOf w) (w .cursor .buf) (w .bound .key) ≡ true)
@@ -71,7 +89,7 @@ pub walk-inverse : (numbers buf bound : List ℕ) → isRecord numbers buf bound
 unfolding readWalk numbersOf stackNumbers entries entryAt tabled
 walk-inverse numbers buf bound e =
     let t = record-told numbers buf bound e in (
-      rw (number-back (getD numbers 10 0) (t .state-fits)) (tabled-all 0 numbers 73 (t .lengths .numbers-is)),
+      rw (number-back (getD numbers 10 0) (t .state-fits), mode-number-back (getD numbers 11 0) (t .mode-fits)) (tabled-all 0 numbers 74 (t .lengths .numbers-is)),
       refl,
       refl,
     )

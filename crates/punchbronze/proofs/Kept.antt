@@ -16,7 +16,7 @@ use Rattle.moves.specs.declared.scan_state.ScanCtx.{ScanCtx}
 use Rattle.moves.specs.declared.scan_state.Outcome.{Outcome}
 use Rattle.moves.specs.declared.scan_state.Outcome.the-variants.{Continue, Push, Emit, Exhausted, Fault}
 use Rattle.moves.proofs.Laws.{InRange, Between, Before, After, not-up, popped-in-range, entered-in-range, move-in-range}
-use Rattle.scan.specs.Machine.{Scan, Moved, pushing, entered, stacked, popped, unstacked, move, Ran, after, run, walkOk, isEnded, scanOf, walkOf, stepped, finished, step}
+use Rattle.scan.specs.Machine.{Scan, Moved, pushing, movedBy, entered, stacked, popped, unstacked, move, Ran, after, run, walkOk, isEnded, scanOf, walkOf, stepped, finished, step}
 use Rattle.scan.specs.Loop.{isUp}
 use Rattle.scan.specs.declared.scan_state.LayerContext.{LayerContext}
 use Rattle.scan.specs.declared.scan_state.Walk.{Walk}
@@ -50,7 +50,7 @@ pushed : (o : Outcome) (c : ScanCtx) (buf : List ℕ) (stack : List LayerContext
     → Kept (pushing o (record { ctx = c; buf = buf; stack = stack }))
 unfolding pushing entered stacked
 pushed Continue c buf stack h l t = (h, (l, t))
-pushed (Push root) c buf stack h l t = (rw (h .0) (entered-in-range c _ refl refl (h .2) (h .1) refl), (l, simp length-set t))
+pushed (Push root) c buf stack h l t = (entered-in-range c _ refl refl (c .state) (h .0) (h .1) refl, (l, simp length-set t))
 pushed (Emit value) c buf stack h l t = (tt, (l, t))
 pushed Exhausted c buf stack h l t = (tt, (l, t))
 pushed Fault c buf stack h l t = (tt, (l, t))
@@ -75,6 +75,7 @@ module _ (image : List ℕ) (kind : ℕ) (bound : List ℕ) where
     unstacked-length = simp length-set (l .1)
 
     from-up : isUp (s .ctx .state) ≡ true → (b : Bool) → eqb (s .ctx .depth) 0 ≡ b → Kept (move image kind bound s)
+    unfolding movedBy
     from-up u true e = rw (end-is image kind bound s u (eqb-true _ _ e)) (tt, l)
     from-up u false e =
         let d : s .ctx .depth ≡ 0 → ⊥ = eqb-false _ _ e in
@@ -86,6 +87,7 @@ module _ (image : List ℕ) (kind : ℕ) (bound : List ℕ) where
         rw (up-is image kind bound s u d) (pushed _ _ _ _ (m .0) (m .1) unstacked-length)
 
     move-kept : (b : Bool) → isUp (s .ctx .state) ≡ b → Kept (move image kind bound s)
+    unfolding movedBy
     move-kept true u = from-up u (eqb (s .ctx .depth) 0) refl
     move-kept false u =
         let r = move-in-range (s .ctx .state) image kind bound (s .buf) (s .ctx) (not-up _ _ (other-state _ u) h) (l .0) in

@@ -14,7 +14,7 @@ use Rattle.cursor.specs.CursorKey.{fromSlice}
 use Rattle.cursor.specs.RangeBound.{boundOf}
 use Rattle.cursor.specs.declared.range_bound.RangeBound.{RangeBound}
 use Rattle.scan.specs.Machine.{zeroWalk, placeFault, freshWalk, place}
-use Rattle.scan.specs.declared.scan_state.StartMode.{StartMode}
+use Rattle.cursor.specs.declared.range_bound.StartMode.{StartMode}
 use Rattle.scan.specs.declared.scan_state.Placed.{Placed}
 use Rattle.scan.proofs.PlaceLaws.{placed-fits}
 use Rattle.punchbronze.specs.Record.{numbersOf, readWalk, isRecord}

@@ -1,6 +1,7 @@
-// A walk and the record in which it crosses to C: 73 numbers and two buffers of 256 bytes, which the caller lends.
+// A walk and the record in which it crosses to C: 74 numbers and two buffers of 256 bytes, which the caller lends.
 use cursor::cursor_key::CursorKey;
 use cursor::range_bound::RangeBound;
+use cursor::range_bound::StartMode;
 use node::permuter::Position;
 use scan::scan_state::LayerContext;
 use scan::scan_state::Walk;
@@ -8,14 +9,14 @@ use scan::scan_state::WalkState;
 ghost use mathlib.Core.Path.{_≡_};
 ghost use Prim.Native.Nat.{_≤_};
 ghost use lib.ListN.{length, getD};
-ghost use Rattle.punchbronze.specs.Record.{stateNumber, stateOf, numbersOf, entries, readWalk, sized, isRecord};
+ghost use Rattle.punchbronze.specs.Record.{modeNumber, modeOf, stateNumber, stateOf, numbersOf, entries, readWalk, sized, isRecord};
 ghost use Rattle.punchbronze.specs.Laid.{headOf, readCursor, readBound};
 
 // Whether the three lengths are a record's.
 pub fn is_sized(numbers: usize, buf: usize, bound: usize) -> bool
     ensures { λ r. ⌜ r ≡ sized numbers buf bound ⌝ }
 {
-    if numbers != 73 {
+    if numbers != 74 {
         return false;
     }
     if buf != 256 {
@@ -28,7 +29,7 @@ pub fn is_sized(numbers: usize, buf: usize, bound: usize) -> bool
 pub fn is_record(numbers: &[u64], buf: &[u8], bound: &[u8]) -> bool
     ensures { λ r. ⌜ r ≡ isRecord (now (numbers .entry)) (now (buf .entry)) (now (bound .entry)) ⌝ }
 {
-    if numbers.len() != 73 {
+    if numbers.len() != 74 {
         return false;
     }
     if buf.len() != 256 {
@@ -40,7 +41,28 @@ pub fn is_record(numbers: &[u64], buf: &[u8], bound: &[u8]) -> bool
     if 255 < numbers[8] {
         return false;
     }
-    numbers[10] <= 3
+    if 3 < numbers[10] {
+        return false;
+    }
+    numbers[11] <= 1
+}
+
+fn mode_number(mode: StartMode) -> u64
+    ensures { λ r. ⌜ r ≡ modeNumber mode ⌝ }
+{
+    match mode {
+        StartMode::Above => 0,
+        StartMode::From => 1,
+    }
+}
+
+fn mode_of(n: u64) -> StartMode
+    ensures { λ r. ⌜ r ≡ modeOf n ⌝ }
+{
+    if n == 0 {
+        return StartMode::Above;
+    }
+    StartMode::From
 }
 
 fn state_number(state: WalkState) -> u64
@@ -70,14 +92,15 @@ fn state_of(n: u64) -> WalkState
 }
 
 // The walk's numbers before the stack's, which are zero yet.
-fn head_of(walk: Walk) -> [u64; 73]
+fn head_of(walk: Walk) -> [u64; 74]
     ensures { λ r. ⌜ r ≡ headOf walk ⌝ }
 {
     let p = walk.position;
     let k = walk.cursor;
     let b = walk.bound;
     let state = walk.state;
-    let mut n = [0u64; 73];
+    let mode = walk.mode;
+    let mut n = [0u64; 74];
     n[0] = walk.image_len as u64;
     n[1] = walk.root;
     n[2] = walk.leaf;
@@ -89,11 +112,12 @@ fn head_of(walk: Walk) -> [u64; 73]
     n[8] = b.kind as u64;
     n[9] = b.len as u64;
     n[10] = state_number(state);
+    n[11] = mode_number(mode);
     n
 }
 
 // All numbers of a walk.
-fn numbers_of(walk: Walk) -> [u64; 73]
+fn numbers_of(walk: Walk) -> [u64; 74]
     ensures { λ r. ⌜ r ≡ numbersOf walk ⌝ }
 {
     let stack = walk.stack;
@@ -101,8 +125,8 @@ fn numbers_of(walk: Walk) -> [u64; 73]
     let mut i = 0;
     while i < 31 {
         let e = stack[i];
-        n[11 + 2 * i] = e.root;
-        n[12 + 2 * i] = e.leaf;
+        n[12 + 2 * i] = e.root;
+        n[13 + 2 * i] = e.leaf;
         i += 1;
     }
     n
@@ -130,7 +154,7 @@ fn copy_bytes(to: &mut [u8], s: &[u8])
 
 // A walk's numbers and its cursor's buffer into a record, whose bound stays.
 pub fn put_moved(walk: Walk, numbers: &mut [u64], buf: &mut [u8])
-    requires { ⌜ length (now numbers) ≡ 73 ⌝ }
+    requires { ⌜ length (now numbers) ≡ 74 ⌝ }
     requires { ⌜ length (now buf) ≡ 256 ⌝ }
     ensures { λ _. ⌜ (now (numbers .exit) ≡ numbersOf walk) × (now (buf .exit) ≡ walk .cursor .buf) ⌝ }
 {
@@ -142,7 +166,7 @@ pub fn put_moved(walk: Walk, numbers: &mut [u64], buf: &mut [u8])
 
 // A walk into a record.
 pub fn put_walk(walk: Walk, numbers: &mut [u64], buf: &mut [u8], bound: &mut [u8])
-    requires { ⌜ length (now numbers) ≡ 73 ⌝ }
+    requires { ⌜ length (now numbers) ≡ 74 ⌝ }
     requires { ⌜ length (now buf) ≡ 256 ⌝ }
     requires { ⌜ length (now bound) ≡ 256 ⌝ }
     ensures { λ _.
@@ -156,14 +180,14 @@ pub fn put_walk(walk: Walk, numbers: &mut [u64], buf: &mut [u8], bound: &mut [u8
 }
 
 fn read_stack(numbers: &[u64]) -> [LayerContext; 31]
-    requires { ⌜ length (now numbers) ≡ 73 ⌝ }
+    requires { ⌜ length (now numbers) ≡ 74 ⌝ }
     ensures { λ r. ⌜ r ≡ entries (now (numbers .entry)) 0 31 ⌝ }
 {
     let mut stack = [LayerContext { root: 0, leaf: 0 }; 31];
     let mut i = 0;
     while i < 31 {
-        let root = numbers[11 + 2 * i];
-        let leaf = numbers[12 + 2 * i];
+        let root = numbers[12 + 2 * i];
+        let leaf = numbers[13 + 2 * i];
         stack[i] = LayerContext {
             root: root,
             leaf: leaf,
@@ -182,7 +206,7 @@ fn bytes_of(s: &[u8]) -> [u8; 256]
 }
 
 fn read_cursor(numbers: &[u64], buf: &[u8]) -> CursorKey
-    requires { ⌜ length (now numbers) ≡ 73 ⌝ }
+    requires { ⌜ length (now numbers) ≡ 74 ⌝ }
     requires { ⌜ length (now buf) ≡ 256 ⌝ }
     ensures { λ r. ⌜ r ≡ readCursor (now (numbers .entry)) (now (buf .entry)) ⌝ }
 {
@@ -195,7 +219,7 @@ fn read_cursor(numbers: &[u64], buf: &[u8]) -> CursorKey
 }
 
 fn read_bound(numbers: &[u64], bound: &[u8]) -> RangeBound
-    requires { ⌜ length (now numbers) ≡ 73 ⌝ }
+    requires { ⌜ length (now numbers) ≡ 74 ⌝ }
     requires { ⌜ length (now bound) ≡ 256 ⌝ }
     requires { ⌜ getD (now numbers) 8 0 ≤ 255 ⌝ }
     ensures { λ r. ⌜ r ≡ readBound (now (numbers .entry)) (now (bound .entry)) ⌝ }
@@ -209,7 +233,7 @@ fn read_bound(numbers: &[u64], bound: &[u8]) -> RangeBound
 
 // The walk of a record.
 pub fn read_walk(numbers: &[u64], buf: &[u8], bound: &[u8]) -> Walk
-    requires { ⌜ length (now numbers) ≡ 73 ⌝ }
+    requires { ⌜ length (now numbers) ≡ 74 ⌝ }
     requires { ⌜ length (now buf) ≡ 256 ⌝ }
     requires { ⌜ length (now bound) ≡ 256 ⌝ }
     requires { ⌜ getD (now numbers) 8 0 ≤ 255 ⌝ }
@@ -224,6 +248,7 @@ pub fn read_walk(numbers: &[u64], buf: &[u8], bound: &[u8]) -> Walk
         depth: numbers[7] as usize,
         stack: read_stack(numbers),
         bound: read_bound(numbers, bound),
+        mode: mode_of(numbers[11]),
         state: state_of(numbers[10]),
     }
 }

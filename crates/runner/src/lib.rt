@@ -1,21 +1,21 @@
-// Runs requests: reads them from standard input and prints their answers. A request is a name's length and the name; the form, the
-// start mode and the bound's kind, a byte each; the cursor's length and the cursor; the bound key's length in two bytes and the
-// key; the image's length in four and the image, at most 65,536 bytes. Every line but form 5's begins with the name.
+// Runs requests (see `requests`): reads them from standard input and prints their answers. Every line but form 5's begins with the
+// name.
 //
 // Interface: `run`, which has no `requires` and hands nothing back.
 use cursor::cursor_key::CursorKey;
-use node::le;
+use cursor::range_bound::StartMode;
+use requests::first;
+use requests::item;
+use requests::line;
+use requests::put;
+use requests::put_hex;
 use scan::scan_state::Answer;
 use scan::scan_state::Placed;
-use scan::scan_state::StartMode;
 use scan::scan_state::Walk;
 use verify::Checked;
 
 // The requests: more than there are.
 const MOST: usize = 10000;
-
-// The longest line of a key: 256 bytes, a space, twenty digits and a newline.
-const LINE: usize = 534;
 
 // A request's form. In form 0 every answer is printed, and nothing more. 1: at the end all moves, up to and with the first none.
 const MOVES: u8 = 1;
@@ -32,65 +32,6 @@ const CHECK: u8 = 4;
 // 5: every step with its moves and the walk's state after it, and no name.
 const STATES: u8 = 5;
 
-// A number of the input, or its end.
-enum Read {
-    Number(usize),
-    End,
-}
-
-fn put(text: &[u8]) {
-    io::write_all(libc::STDOUT_FILENO, text);
-}
-
-// A word and a number.
-fn item(word: &[u8], n: u64) {
-    put(word);
-    io::print_decimal(libc::STDOUT_FILENO, n);
-}
-
-// A line of a name, a word and a number.
-fn line(name: &[u8], word: &[u8], n: usize) {
-    put(name);
-    item(word, n as u64);
-    put(b"\n");
-}
-
-// The first n bytes of a buffer.
-fn first<'a>(s: &'a [u8], n: usize) -> &'a [u8] {
-    if s.len() < n {
-        return s;
-    }
-    key::part_of(s, 0, n)
-}
-
-// The next n bytes of the input, at the start of buf; false where there are not so many.
-fn next(buf: &mut [u8], n: usize) -> bool {
-    if buf.len() < n {
-        return false;
-    }
-    io::read_full(libc::STDIN_FILENO, &mut buf[0..n]) == n
-}
-
-// The number in the next bytes of the input, at most four.
-fn number(width: usize) -> Read {
-    let mut bytes = [0u8; 4];
-    if !next(&mut bytes, width) {
-        return Read::End;
-    }
-    Read::Number(le::u32_at(&bytes, 0) as usize)
-}
-
-// A length of so many bytes, and as many bytes as it says, at the start of buf; the length.
-fn field(buf: &mut [u8], width: usize) -> Read {
-    let Read::Number(n) = number(width) else {
-        return Read::End;
-    };
-    if !next(buf, n) {
-        return Read::End;
-    }
-    Read::Number(n)
-}
-
 // The placing of a request: mode 0 is above, 1 from, and any other the short form.
 fn placed(mode: u8, kind: u8, cursor: &[u8], bound: &[u8], image: &[u8]) -> Placed {
     if mode == 0 {
@@ -106,20 +47,9 @@ fn placed(mode: u8, kind: u8, cursor: &[u8], bound: &[u8], image: &[u8]) -> Plac
 fn key_line(name: &[u8], walk: Walk, len: usize, value: u64) {
     let cursor = walk.cursor;
     let buf = cursor.buf;
-    let mut space = [0u8; LINE];
-    let n = sheet::pair_line(&mut space, first(&buf, len), value);
     put(name);
     put(b" key ");
-    put(first(&space, n));
-}
-
-// Some bytes in hex, `-` for none: the front of a sheet's line, which ends in a space, a digit and a newline.
-fn put_hex(bytes: &[u8]) {
-    let mut space = [0u8; LINE];
-    let n = sheet::pair_line(&mut space, bytes, 0);
-    if 3 <= n {
-        put(first(&space, n - 3));
-    }
+    requests::put_pair(first(&buf, len), value);
 }
 
 // The layers that a walk has entered, outermost first, or `-` for none.
@@ -302,9 +232,8 @@ fn is_accepted(name: &[u8], form: u8, image: &[u8]) -> bool {
     }
 }
 
-// How a request is to be run: its form, start mode and bound's kind.
-fn request(name: &[u8], how: [u8; 3], cursor: &[u8], bound: &[u8], image: &[u8]) {
-    let form = how[0];
+// The answers of a request in its form, with the start mode and the bound's kind.
+fn request(name: &[u8], form: u8, mode: u8, kind: u8, cursor: &[u8], bound: &[u8], image: &[u8]) {
     if form == CHECK {
         is_accepted(name, form, image);
         return;
@@ -312,7 +241,7 @@ fn request(name: &[u8], how: [u8; 3], cursor: &[u8], bound: &[u8], image: &[u8])
     if form == TOTAL && !is_accepted(name, form, image) {
         return;
     }
-    let placed = placed(how[1], how[2], cursor, bound, image);
+    let placed = placed(mode, kind, cursor, bound, image);
     if form == STATES {
         states(placed, image);
         return;
@@ -322,36 +251,26 @@ fn request(name: &[u8], how: [u8; 3], cursor: &[u8], bound: &[u8], image: &[u8])
 
 // Reads one request and prints its answers; false at the end of the input.
 fn one(image: &mut [u8]) -> bool {
-    let mut name = [0u8; 256];
-    let mut how = [0u8; 3];
-    let mut cursor = [0u8; 256];
-    let mut bound = [0u8; 512];
-    let Read::Number(n) = field(&mut name, 1) else {
-        return false;
-    };
-    if !next(&mut how, 3) {
+    let r = requests::read_request(image);
+    if !r.more {
         return false;
     }
-    let Read::Number(c) = field(&mut cursor, 1) else {
-        return false;
-    };
-    let Read::Number(b) = field(&mut bound, 2) else {
-        return false;
-    };
-    let Read::Number(i) = field(image, 4) else {
-        return false;
-    };
+    let name = r.name;
+    let cursor = r.cursor;
+    let bound = r.bound;
     request(
-        first(&name, n),
-        how,
-        first(&cursor, c),
-        first(&bound, b),
-        first(image, i),
+        first(&name, r.name_len),
+        r.form,
+        r.mode,
+        r.kind,
+        first(&cursor, r.cursor_len),
+        first(&bound, r.bound_len),
+        first(image, r.image_len),
     );
     true
 }
 
-fn requests(image: &mut [u8]) {
+fn all(image: &mut [u8]) {
     let mut left = MOST;
     while 0 < left && one(image) {
         left -= 1;
@@ -361,5 +280,5 @@ fn requests(image: &mut [u8]) {
 // Reads requests until the input ends and prints their answers.
 pub fn run() {
     let mut space = io::large_buffer();
-    requests(&mut space);
+    all(&mut space);
 }

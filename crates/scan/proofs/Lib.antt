@@ -1,4 +1,4 @@
--- The lemma files of this crate.
+-- The lemma files of this crate; `ByRule01` is a theorem.
 pub mod PlaceLaws
 pub mod WalkLaws
 pub mod MoveLaws
@@ -6,3 +6,4 @@ pub mod FastAt
 pub mod LoopLaws
 pub mod RunLaws
 pub mod StepLaws
+pub mod ByRule01

@@ -27,7 +27,7 @@ use Rattle.moves.specs.declared.scan_state.Outcome.the-variants.{Continue, Push
 use Rattle.moves.specs.declared.scan_state.Pass.{Pass}
 use Rattle.moves.proofs.Laws.{InRange, Between, Before, After, not-up, popped-in-range, entered-in-range, pass-in-range, buffer-in-range}
 use Rattle.moves.proofs.FastLaws.{handOut, fast-facts, fast-move}
-use Rattle.scan.specs.Machine.{Scan, Moved, pushing, entered, stacked, emptyContext, popped, unstacked, move, walkOk, scanOf, walkOf, stepped, finished}
+use Rattle.scan.specs.Machine.{Scan, Moved, pushing, movedBy, entered, stacked, emptyContext, popped, unstacked, move, walkOk, scanOf, walkOf, stepped, finished}
 use Rattle.scan.specs.Loop.{isUp, poppedTo, walkWith, counted, Run, afterBy, runBy, allBy, advanceBy, advancedWith}
 use Rattle.scan.specs.declared.scan_state.LayerContext.{LayerContext}
 use Rattle.scan.specs.declared.scan_state.Walk.{Walk}
@@ -35,11 +35,11 @@ use Rattle.scan.specs.declared.scan_state.WalkState.the-variants as walk
 use Rattle.scan.specs.declared.scan_state.Answer.the-variants.{Key, Nothing, Declined}
 use Rattle.scan.specs.declared.forward_ctx.Advanced.{Advanced}
 use Rattle.scan.proofs.WalkLaws.{walk-fits, starts-between}
-use Rattle.scan.proofs.MoveLaws.{passed, up-state, other-state, pass-is, up-is, end-is}
+use Rattle.scan.proofs.MoveLaws.{up-state, other-state, pass-is, up-is, end-is}
 use Rattle.scan.proofs.FastAt.{OnPath}
 
 between-deep : (state : ScanState) (c : ScanCtx) → Between state c → c .depth ≤ 31
-between-deep Start c h = h .deep
+between-deep (Start mode) c h = h .deep
 between-deep Retry c h = h .deep
 between-deep FindNext c h = h .deep
 between-deep Down c h = h .1
@@ -47,7 +47,7 @@ between-deep Up c h = h .deep
 
 -- the layer's place in the buffer leaves room for an ikey
 between-place : (state : ScanState) (c : ScanCtx) → Between state c → c .cursor .offset ≤ 248
-between-place Start c h = omega (arith, h .place, h .deep)
+between-place (Start mode) c h = omega (arith, h .place, h .deep)
 between-place Retry c h = omega (arith, h .place, h .deep)
 between-place FindNext c h = omega (arith, h .place, h .deep)
 between-place Down c h = omega (arith, h .2 .place, h .2 .deep)
@@ -70,7 +70,7 @@ module _ (whole : Bool) (w : Walk) (image : List ℕ) (kind : ℕ) (bound : List
 
   -- It has come to its pass, with c and stack: the move from s is that pass, and the pass's numbers are in range.
   pub record Ready (s : Scan) (c : ScanCtx) (stack : List LayerContext) : Type 0 where
-    pub is : move image kind bound s ≡ passed (passIn (c .state) image kind bound (s .buf) c) stack
+    pub is : move image kind bound s ≡ movedBy stack (passIn (c .state) image kind bound (s .buf) c)
     pub fits : Before (c .state) c
 
   -- It has made its pass p, and the buffer is b now.
@@ -121,7 +121,7 @@ module _ (whole : Bool) (w : Walk) (image : List ℕ) (kind : ℕ) (bound : List
 
       -- Up from the first layer
       pub ends : isUp (s .ctx .state) ≡ true → s .ctx .depth ≡ 0
-          → (next : Walk) → next ≡ walkWith (w .«image_len») (w .bound) walk.Ended (s .ctx) (s .buf) (s .stack)
+          → (next : Walk) → next ≡ walkWith (w .«image_len») (w .bound) (w .mode) walk.Ended (s .ctx) (s .buf) (s .stack)
           → (r : Advanced) → r ≡ advancedWith keys Nothing (moves + 1) next → r ≡ advanceBy whole w image
       unfolding advancedWith finished stepped afterBy counted walkOf walkWith
       ends u d next e r f =
@@ -143,6 +143,7 @@ module _ (whole : Bool) (w : Walk) (image : List ℕ) (kind : ℕ) (bound : List
 
       module _ (r : Ready s c stack) (more : moves < length image) (p : Pass) (b : List ℕ) where
         pub made : p ≡ passIn (c .state) image kind bound (s .buf) c .pass → b ≡ passIn (c .state) image kind bound (s .buf) c .buf → Made p b stack moves keys
+        unfolding movedBy
         made e f = record {
           within = omega arith;
           few = h .few;
@@ -186,9 +187,9 @@ module _ (whole : Bool) (w : Walk) (image : List ℕ) (kind : ℕ) (bound : List
           within = m .within;
           few = omega (arith, m .few);
           same = m .same (Push root) e;
-          fits = rw (l .0) (entered-in-range (p .ctx) _ refl refl (l .2) (l .1) refl);
+          fits = entered-in-range (p .ctx) _ refl refl (p .ctx .state) (l .0) (l .1) refl;
           long = m .long;
-          deep = omega arith;
+          deep = omega (arith, l .1);
           known = λ g. absurd (false≢true g);
         })
 
@@ -210,12 +211,12 @@ module _ (whole : Bool) (w : Walk) (image : List ℕ) (kind : ℕ) (bound : List
         }
 
     module _ (next : Walk) (r : Advanced) where
-      pub emits : whole ≡ false → (value : ℕ) → p .outcome ≡ Emit value → next ≡ walkWith (w .«image_len») (w .bound) walk.FindNext (p .ctx) b stack
+      pub emits : whole ≡ false → (value : ℕ) → p .outcome ≡ Emit value → next ≡ walkWith (w .«image_len») (w .bound) (w .mode) walk.FindNext (p .ctx) b stack
           → r ≡ advancedWith (keys + 1) (Key (p .ctx .cursor .offset + p .ctx .cursor .len) value) (moves + 1) next → r ≡ advanceBy whole w image
       unfolding advancedWith finished stepped pushing afterBy counted walkOf walkWith
       emits t value e f g = g ∙ rw f (comes _ (pick-off whole whole refl _ _ _ t refl ∙ m .same (Emit value) e))
 
-      pub exhausts : p .outcome ≡ Exhausted → next ≡ walkWith (w .«image_len») (w .bound) walk.Ended (p .ctx) b stack
+      pub exhausts : p .outcome ≡ Exhausted → next ≡ walkWith (w .«image_len») (w .bound) (w .mode) walk.Ended (p .ctx) b stack
           → r ≡ advancedWith keys Nothing (moves + 1) next → r ≡ advanceBy whole w image
       unfolding advancedWith finished stepped pushing afterBy counted walkOf walkWith
       exhausts e f g = g ∙ rw f (comes _ (m .same Exhausted e))
@@ -242,7 +243,7 @@ module _ (whole : Bool) (w : Walk) (image : List ℕ) (kind : ℕ) (bound : List
         rw (ec, ek, eb) (counts _ _ _ _ _ m (f .0) _ refl true (λ y. fast-facts image _ _ _ slot (f .1 .slot-is) .there))
 
     -- past it
-    pub ends-fast : not r ≡ true → (next : Walk) → next ≡ walkWith (w .«image_len») (w .bound) walk.Ended c b (s .stack)
+    pub ends-fast : not r ≡ true → (next : Walk) → next ≡ walkWith (w .«image_len») (w .bound) (w .mode) walk.Ended c b (s .stack)
         → (a : Advanced) → a ≡ advancedWith keys Nothing (moves + 1) next → a ≡ advanceBy whole w image
     ends-fast n next en a ea =
         let m : Made (record { outcome = Exhausted; ctx = onward (s .ctx) (K s moves keys there h more slot (f .1)) (K s moves keys there h more slot (f .1) .ikey) }) (B s moves keys there h more slot (f .1)) (s .stack) moves keys =

@@ -1,5 +1,5 @@
 -- A move of the machine as the loop makes it: in Up the layer above is taken back, then one pass, then a layer that was
--- found is entered. Only FindNext finds one. Assumes nothing.
+-- found is entered. Only FindNext and Start find one. Assumes nothing.
 use mathlib.Core.Path.{_≡_, refl, sym, _∙_, ap}
 use mathlib.Core.Bool.{Bool, true, false, true≢false, false≢true}
 use mathlib.Core.List.{List}
@@ -12,40 +12,31 @@ use Rattle.search.specs.declared.helper.Searched.{Searched}
 use Rattle.search.specs.declared.helper.Searched.the-variants.{At, Fault as SearchedFault}
 use Rattle.search.specs.declared.traversal.Reached.{Reached}
 use Rattle.search.specs.declared.traversal.Reached.the-variants.{Leaf as ReachedLeaf, Fault as ReachedFault}
-use Rattle.moves.specs.Moves.{Taken, kept, faulted, standing, startIn, findStart, retryIn, findRetry, handleDown, handleUp, passIn}
+use Rattle.moves.specs.Moves.{Taken, kept, faulted, standing, retryIn, findRetry, handleDown, handleUp, passIn}
 use Rattle.moves.specs.declared.scan_state.ScanState.{ScanState}
 use Rattle.moves.specs.declared.scan_state.ScanState.the-variants.{Start, Retry, FindNext, Down, Up}
 use Rattle.moves.specs.declared.scan_state.ScanCtx.{ScanCtx}
 use Rattle.moves.specs.declared.scan_state.Outcome.{Outcome}
 use Rattle.moves.specs.declared.scan_state.Outcome.the-variants.{Exhausted}
 use Rattle.moves.specs.declared.scan_state.Pass.{Pass}
-use Rattle.scan.specs.Machine.{Scan, Moved, moved, pushing, popped, unstacked, moveIn, move}
+use Rattle.scan.specs.Machine.{Scan, Moved, moved, pushing, popped, unstacked, movedBy, moveIn, move}
 use Rattle.scan.specs.Loop.{isUp}
 use Rattle.scan.specs.declared.scan_state.LayerContext.{LayerContext}
 
--- A pass over a buffer, with the layer that it found entered.
-abbrev pub passed : Taken → List LayerContext → Moved
-passed t stack = pushing (t .pass .outcome) (record { ctx = t .pass .ctx; buf = t .buf; stack = stack })
-
 -- an outcome by which no layer is entered
-abbrev Stays : Outcome → Type 0
+abbrev pub Stays : Outcome → Type 0
 Stays o = (s : Scan) → record { outcome = o; scan = s } ≡ pushing o s
 
-faulted-stays : (c : ScanCtx) → Stays (faulted c .outcome)
+pub faulted-stays : (c : ScanCtx) → Stays (faulted c .outcome)
 unfolding faulted pushing
 faulted-stays c s = refl
 
-standing-stays : (c : ScanCtx) (leaf : ℕ) (k : CursorPlace) (dup : Bool) (last : ℕ) (r : Searched) → Stays (standing c leaf k dup last r .outcome)
+pub standing-stays : (c : ScanCtx) (leaf : ℕ) (k : CursorPlace) (dup : Bool) (last : ℕ) (r : Searched) → Stays (standing c leaf k dup last r .outcome)
 unfolding standing pushing
 standing-stays c leaf k dup last (At p) s = refl
 standing-stays c leaf k dup last SearchedFault s = faulted-stays c s
 
 module _ (image buf : List ℕ) (c : ScanCtx) where
-  start-stays : (r : Reached) → Stays (startIn image c r .outcome)
-  unfolding startIn
-  start-stays (ReachedLeaf leaf) = standing-stays _ _ _ _ _ _
-  start-stays ReachedFault = faulted-stays c
-
   retry-stays : (r : Reached) → Stays (retryIn image buf c r .outcome)
   unfolding retryIn
   retry-stays (ReachedLeaf leaf) = standing-stays _ _ _ _ _ _
@@ -57,7 +48,7 @@ module _ (image buf : List ℕ) (c : ScanCtx) where
 
 pub up-state : (state : ScanState) → isUp state ≡ true → state ≡ Up
 unfolding isUp
-up-state Start e = absurd (false≢true e)
+up-state (Start mode) e = absurd (false≢true e)
 up-state Retry e = absurd (false≢true e)
 up-state FindNext e = absurd (false≢true e)
 up-state Down e = absurd (false≢true e)
@@ -69,9 +60,9 @@ other-state state e u = true≢false (sym (ap isUp u) ∙ e)
 
 module _ (image : List ℕ) (kind : ℕ) (bound : List ℕ) where
   pass-made : (state : ScanState) → isUp state ≡ false → (s : Scan)
-      → moveIn state image kind bound s ≡ passed (passIn state image kind bound (s .buf) (s .ctx)) (s .stack)
-  unfolding isUp moveIn moved passIn kept findStart findRetry handleDown pushing
-  pass-made Start e s = start-stays image (s .buf) (s .ctx) _ _
+      → moveIn state image kind bound s ≡ movedBy (s .stack) (passIn state image kind bound (s .buf) (s .ctx))
+  unfolding isUp moveIn moved movedBy passIn kept findRetry handleDown pushing
+  pass-made (Start mode) e s = refl
   pass-made Retry e s = retry-stays image (s .buf) (s .ctx) _ _
   pass-made FindNext e s = refl
   pass-made Down e s = refl
@@ -79,15 +70,15 @@ module _ (image : List ℕ) (kind : ℕ) (bound : List ℕ) where
 
   module _ (s : Scan) where
     -- in every state but Up
-    pub pass-is : isUp (s .ctx .state) ≡ false → move image kind bound s ≡ passed (passIn (s .ctx .state) image kind bound (s .buf) (s .ctx)) (s .stack)
+    pub pass-is : isUp (s .ctx .state) ≡ false → move image kind bound s ≡ movedBy (s .stack) (passIn (s .ctx .state) image kind bound (s .buf) (s .ctx))
     unfolding move
     pass-is e = pass-made (s .ctx .state) e s
 
     module _ (e : isUp (s .ctx .state) ≡ true) where
       -- in Up, from a layer below the first
       pub up-is : (s .ctx .depth ≡ 0 → ⊥)
-          → move image kind bound s ≡ passed (passIn (s .ctx .state) image kind bound (s .buf) (popped (s .ctx) (s .stack))) (unstacked (s .ctx) (s .stack))
-      unfolding move moveIn moved passIn kept pick
+          → move image kind bound s ≡ movedBy (unstacked (s .ctx) (s .stack)) (passIn (s .ctx .state) image kind bound (s .buf) (popped (s .ctx) (s .stack)))
+      unfolding move moveIn moved movedBy passIn kept pick
       up-is h = rw (up-state (s .ctx .state) e, ne-eqb (s .ctx .depth) 0 h) (up-stays image (s .buf) _ _)
 
       -- in Up, from the first layer

@@ -15,6 +15,7 @@ use Rattle.scan.specs.Machine.{walkOk, scanState, scanOf, isEnded, step}
 use Rattle.scan.specs.Loop.{advance}
 use Rattle.scan.specs.declared.scan_state.Walk.{Walk}
 use Rattle.scan.specs.declared.scan_state.Answer.the-variants.{Nothing, Declined}
+use Rattle.cursor.specs.declared.range_bound.StartMode.{StartMode}
 use Rattle.scan.specs.declared.scan_state.WalkState.{WalkState}
 use Rattle.scan.specs.declared.scan_state.WalkState.the-variants.{Start, Retry, FindNext, Ended}
 
@@ -55,19 +56,19 @@ walk-fits w n e =
       bound-fits = leb-true _ _ (b .1);
     }
 
-start-between : (state : WalkState) (c : ScanCtx) → InRange (c .depth) c → Between (scanState state) c
+start-between : (mode : StartMode) (state : WalkState) (c : ScanCtx) → InRange (c .depth) c → Between (scanState mode state) c
 unfolding scanState
-start-between Start c h = h
-start-between Retry c h = h
-start-between FindNext c h = h
-start-between Ended c h = h
+start-between mode Start c h = h
+start-between mode Retry c h = h
+start-between mode FindNext c h = h
+start-between mode Ended c h = h
 
 -- a walk's numbers are in range before the first move
 pub starts-between : (w : Walk) (n : ℕ) → walkOk w n ≡ true → Between (scanOf w .ctx .state) (scanOf w .ctx)
 unfolding scanOf
 starts-between w n e =
     let o = walk-fits w n e in
-    start-between (w .state) _ (record { place = o .offset-is; deep = o .depth-fits; within = o .end-fits; position = o .position-fits })
+    start-between (w .mode) (w .state) _ (record { place = o .offset-is; deep = o .depth-fits; within = o .end-fits; position = o .position-fits })
 
 -- A STEP, by the two tests that stand before its moves.
 module _ (w : Walk) (image : List ℕ) where

@@ -9,6 +9,7 @@ use lib.Dec.{eqb}
 use lib.ListN.{length, take}
 use Rattle.cursor.specs.declared.range_bound.RangeBound.{RangeBound}
 use Rattle.base.specs.Pick.{pick}
+use Rattle.cursor.specs.declared.range_bound.StartMode.{StartMode}
 use Rattle.scan.specs.Machine.{Scan, move, Ran, run, walkOk, isEnded, scanOf, finished}
 use Rattle.scan.specs.declared.scan_state.LayerContext.{LayerContext}
 use Rattle.scan.specs.declared.scan_state.WalkState.{WalkState}
@@ -27,7 +28,7 @@ use Rattle.scan.specs.declared.scan_state.Stepped.{Stepped}
 use Rattle.scan.specs.declared.forward_ctx.Advanced.{Advanced}
 
 unfoldable pub isUp : ScanState → Bool
-isUp Start = false
+isUp (Start mode) = false
 isUp Retry = false
 isUp FindNext = false
 isUp Down = false
@@ -45,8 +46,8 @@ poppedTo c parent = record {
   last = c .last;
 }
 
-unfoldable pub walkWith : ℕ → RangeBound → WalkState → ScanCtx → List ℕ → List LayerContext → Walk
-walkWith imageLen bound state c buf stack = record {
+unfoldable pub walkWith : ℕ → RangeBound → StartMode → WalkState → ScanCtx → List ℕ → List LayerContext → Walk
+walkWith imageLen bound mode state c buf stack = record {
   «image_len» = imageLen;
   root = c .root;
   leaf = c .leaf;
@@ -55,6 +56,7 @@ walkWith imageLen bound state c buf stack = record {
   depth = c .depth;
   stack = stack;
   bound = bound;
+  mode = mode;
   state = state;
 }
 
@@ -126,7 +128,7 @@ keysLeft w image = pick (walkOk w (length image) && not (isEnded (w .state))) (k
 
 -- THE FAST PATH, which a count takes right after a key: no duplicate check is due, and the cursor has the last ikey.
 unfoldable pub isNext : ScanState → Bool
-isNext Start = false
+isNext (Start mode) = false
 isNext Retry = false
 isNext FindNext = true
 isNext Down = false

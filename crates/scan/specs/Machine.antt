@@ -14,9 +14,9 @@ use Rattle.cursor.specs.RangeBound.{boundOf}
 use Rattle.cursor.specs.declared.cursor_key.CursorKey.{CursorKey}
 use Rattle.cursor.specs.declared.cursor_key.CursorPlace.{CursorPlace}
 use Rattle.cursor.specs.declared.range_bound.RangeBound.{RangeBound}
-use Rattle.moves.specs.Moves.{findStart, findRetry, handleDown, handleUp, findNext}
-use Rattle.scan.specs.declared.scan_state.StartMode.{StartMode}
-use Rattle.scan.specs.declared.scan_state.StartMode.the-variants.{Above, From}
+use Rattle.moves.specs.Moves.{Taken, findStart, findRetry, handleDown, handleUp, findNext}
+use Rattle.cursor.specs.declared.range_bound.StartMode.{StartMode}
+use Rattle.cursor.specs.declared.range_bound.StartMode.the-variants.{Above, From}
 use Rattle.scan.specs.declared.scan_state.LayerContext.{LayerContext}
 use Rattle.scan.specs.declared.scan_state.WalkState.{WalkState}
 use Rattle.scan.specs.declared.scan_state.WalkState.the-variants.{Start, Retry, FindNext, Ended}
@@ -52,7 +52,7 @@ valueOf (Declined n) = 0
 unfoldable pub emptyContext : LayerContext
 emptyContext = record { root = 0; leaf = 0 }
 
--- "a declined placing gives the all-zero walk, ended".
+-- "a declined placing gives the all-zero walk, ended"; 02 [1], of the start mode: "the all-zero walk's is above".
 unfoldable pub zeroWalk : Walk
 zeroWalk = record {
   «image_len» = 0;
@@ -63,21 +63,28 @@ zeroWalk = record {
   depth = 0;
   stack = replicate 31 emptyContext;
   bound = record { kind = 0; len = 0; key = replicate 256 0 };
+  mode = Above;
   state = Ended;
 }
 
--- "1, 2 as above; 11: cursor over 8 bytes; 12: kind over 2; 13: bound key over 256 bytes, for kind 0 too".
+-- "1, 2 as above; 11: ..; 12: kind over 2; 13: bound key over 256 bytes, for kind 0 too"; 02 [1]: "11 now means over 256 bytes, same
+-- place".
 unfoldable pub placeFault : List ℕ → List ℕ → ℕ → List ℕ → ℕ
 placeFault image key kind bound =
     pick (not (eqb (headingFault image) 0)) (headingFault image)
-    (pick (ltb 8 (length key)) 11 (pick (ltb 2 kind) 12 (pick (ltb 256 (length bound)) 13 0)))
+    (pick (ltb 256 (length key)) 11 (pick (ltb 2 kind) 12 (pick (ltb 256 (length bound)) 13 0)))
 
--- "started in its Retry state"; "Mode from adds a Start move in place of the first Retry".
-unfoldable pub startState : StartMode → WalkState
-startState Above = Retry
-startState From = Start
+-- "the state set to Retry"; "Mode from adds a Start move in place of the first Retry". 02 [1]: "Up to eight bytes nothing changes.
+-- Past eight, one Start move is made for the root ..", "in both modes".
+unfoldable pub shortState : StartMode → WalkState
+shortState Above = Retry
+shortState From = Start
 
--- "It keeps image length, layer root (first the tree's), leaf, position, cursor, stack (empty), bound and state."
+unfoldable pub startState : StartMode → ℕ → WalkState
+startState mode n = pick (ltb 8 n) Start (shortState mode)
+
+-- "It keeps image length, layer root (first the tree's), leaf, position, cursor, stack (empty), bound and state." 02 [1]: "The walk
+-- keeps its start mode for this".
 unfoldable pub freshWalk : List ℕ → StartMode → List ℕ → ℕ → List ℕ → Walk
 freshWalk image mode key kind bound = record {
   «image_len» = length image;
@@ -88,7 +95,8 @@ freshWalk image mode key kind bound = record {
   depth = 0;
   stack = replicate 31 emptyContext;
   bound = boundOf kind bound;
-  state = startState mode;
+  mode = mode;
+  state = startState mode (length key);
 }
 
 unfoldable pub place : List ℕ → StartMode → List ℕ → ℕ → List ℕ → Placed
@@ -137,17 +145,19 @@ popped c stack =
 unfoldable pub unstacked : ScanCtx → List LayerContext → List LayerContext
 unstacked c stack = set stack (c .depth - 1) emptyContext
 
+-- A pass that may enter a layer.
+unfoldable pub movedBy : List LayerContext → Taken → Moved
+movedBy stack t = pushing (t .pass .outcome) (record { ctx = t .pass .ctx; buf = t .buf; stack = stack })
+
 -- One pass of the loop. "Up: ends on an empty stack".
 unfoldable pub moveIn : ScanState → List ℕ → ℕ → List ℕ → Scan → Moved
-moveIn loop.Start image kind bound s = moved (s .buf) (s .stack) (findStart image (s .ctx))
+moveIn (loop.Start mode) image kind bound s = movedBy (s .stack) (findStart mode image (s .buf) (s .ctx))
 moveIn loop.Retry image kind bound s = moved (s .buf) (s .stack) (findRetry image (s .buf) (s .ctx))
 moveIn loop.Down image kind bound s = moved (s .buf) (s .stack) (handleDown (s .ctx))
 moveIn loop.Up image kind bound s =
     pick (eqb (s .ctx .depth) 0) (record { outcome = Exhausted; scan = s })
     (moved (s .buf) (unstacked (s .ctx) (s .stack)) (handleUp image (s .buf) (popped (s .ctx) (s .stack))))
-moveIn loop.FindNext image kind bound s =
-    let t = findNext image kind bound (s .buf) (s .ctx) in
-    pushing (t .pass .outcome) (record { ctx = t .pass .ctx; buf = t .buf; stack = s .stack })
+moveIn loop.FindNext image kind bound s = movedBy (s .stack) (findNext image kind bound (s .buf) (s .ctx))
 
 unfoldable pub move : List ℕ → ℕ → List ℕ → Scan → Moved
 move image kind bound s = moveIn (s .ctx .state) image kind bound s
@@ -180,13 +190,13 @@ walkOk w n =
     eqb (w .«image_len») n && (leb (w .depth) 31 && (eqb (w .cursor .offset) (8 * w .depth) && (leb (w .cursor .offset + w .cursor .len) 256
     && (leb (w .position .0) 15 && (leb (w .bound .kind) 2 && leb (w .bound .len) 256)))))
 
--- The loop's state at the start of a call. No duplicate check is due; the last ikey handed out is the cursor's where the walk has
--- handed out a key.
-unfoldable pub scanState : WalkState → ScanState
-scanState Start = loop.Start
-scanState Retry = loop.Retry
-scanState FindNext = loop.FindNext
-scanState Ended = loop.Up
+-- The loop's state at the start of a call; Start goes by the walk's start mode. No duplicate check is due; the last ikey handed out
+-- is the cursor's where the walk has handed out a key.
+unfoldable pub scanState : StartMode → WalkState → ScanState
+scanState mode Start = loop.Start mode
+scanState mode Retry = loop.Retry
+scanState mode FindNext = loop.FindNext
+scanState mode Ended = loop.Up
 
 unfoldable pub lastIkey : WalkState → ℕ → ℕ
 lastIkey Start ikey = 0
@@ -208,7 +218,7 @@ scanOf w = record {
     position = w .position;
     cursor = record { offset = w .cursor .offset; len = w .cursor .len; ikey = w .cursor .ikey };
     depth = w .depth;
-    state = scanState (w .state);
+    state = scanState (w .mode) (w .state);
     dup = false;
     last = lastIkey (w .state) (w .cursor .ikey);
   };
@@ -216,7 +226,7 @@ scanOf w = record {
   stack = w .stack;
 }
 
--- The walk after a call: what the loop holds, with image length and bound as they were.
+-- The walk after a call: what the loop holds, with image length, bound and start mode as they were.
 unfoldable pub walkOf : Walk → WalkState → Scan → Walk
 walkOf w state s = record {
   «image_len» = w .«image_len»;
@@ -227,6 +237,7 @@ walkOf w state s = record {
   depth = s .ctx .depth;
   stack = s .stack;
   bound = w .bound;
+  mode = w .mode;
   state = state;
 }
 

@@ -9,6 +9,7 @@ use cursor::cursor_key::CursorKey;
 use cursor::cursor_key::CursorPlace;
 use cursor::range_bound;
 use cursor::range_bound::RangeBound;
+use cursor::range_bound::StartMode;
 use moves::fast_path;
 use moves::fast_path::FastSlot;
 use moves::forward_ctx;
@@ -24,11 +25,11 @@ ghost use Rattle.scan.specs.Machine.{scanState, lastIkey, entered, walkO
 ghost use Rattle.scan.specs.Loop.{isUp, isNext, fastAt, poppedTo, walkWith, advance, advanceBy, advancedWith, keysAhead};
 
 // The loop's state at the start of a call.
-fn scan_state(state: WalkState) -> ScanState
-    ensures { λ r. ⌜ r ≡ scanState state ⌝ }
+fn scan_state(mode: StartMode, state: WalkState) -> ScanState
+    ensures { λ r. ⌜ r ≡ scanState mode state ⌝ }
 {
     match state {
-        WalkState::Start => ScanState::Start,
+        WalkState::Start => ScanState::Start(mode),
         WalkState::Retry => ScanState::Retry,
         WalkState::FindNext => ScanState::FindNext,
         WalkState::Ended => ScanState::Up,
@@ -51,7 +52,7 @@ fn is_up(state: ScanState) -> bool
     ensures { λ r. ⌜ r ≡ isUp state ⌝ }
 {
     match state {
-        ScanState::Start => false,
+        ScanState::Start(mode) => false,
         ScanState::Retry => false,
         ScanState::FindNext => false,
         ScanState::Down => false,
@@ -103,12 +104,13 @@ fn enter(c: ScanCtx, root: u64) -> ScanCtx
 fn walk_of(
     image_len: usize,
     bound: RangeBound,
+    mode: StartMode,
     state: WalkState,
     c: ScanCtx,
     buf: [u8; 256],
     stack: [LayerContext; 31],
 ) -> Walk
-    ensures { λ r. ⌜ r ≡ walkWith «image_len» bound state c buf stack ⌝ }
+    ensures { λ r. ⌜ r ≡ walkWith «image_len» bound mode state c buf stack ⌝ }
 {
     let k = c.cursor;
     let position = c.position;
@@ -126,6 +128,7 @@ fn walk_of(
         depth: c.depth,
         stack: stack,
         bound: bound,
+        mode: mode,
         state: state,
     }
 }
@@ -134,7 +137,7 @@ fn is_next(state: ScanState) -> bool
     ensures { λ r. ⌜ r ≡ isNext state ⌝ }
 {
     match state {
-        ScanState::Start => false,
+        ScanState::Start(mode) => false,
         ScanState::Retry => false,
         ScanState::FindNext => true,
         ScanState::Down => false,
@@ -197,6 +200,7 @@ fn advance_by(walk: Walk, image: &[u8], whole: bool) -> Advanced
     let bound_len = bound.len;
     let end = key::part_of(&bound_key, 0, bound_len);
     let cursor = walk.cursor;
+    let mode = walk.mode;
     let state = walk.state;
     let position = walk.position;
     let mut buf = cursor.buf;
@@ -211,7 +215,7 @@ fn advance_by(walk: Walk, image: &[u8], whole: bool) -> Advanced
             ikey: cursor.ikey,
         },
         depth: walk.depth,
-        state: scan_state(state),
+        state: scan_state(mode, state),
         dup: false,
         last: last_ikey(state, cursor.ikey),
     };
@@ -227,7 +231,15 @@ fn advance_by(walk: Walk, image: &[u8], whole: bool) -> Advanced
                 let k = fast_path::store_key(image, c.leaf as usize, slot, &mut buf, cursor);
                 let next = forward_ctx::go_on(c, k, k.ikey);
                 if !range_bound::contains(kind, end, key::part_of(&buf, 0, k.offset + k.len)) {
-                    let after = walk_of(walk.image_len, bound, WalkState::Ended, next, buf, stack);
+                    let after = walk_of(
+                        walk.image_len,
+                        bound,
+                        mode,
+                        WalkState::Ended,
+                        next,
+                        buf,
+                        stack,
+                    );
                     return came_to(keys, Answer::Nothing, moves, after);
                 }
                 keys += 1;
@@ -240,7 +252,15 @@ fn advance_by(walk: Walk, image: &[u8], whole: bool) -> Advanced
                 if is_up(now) {
                     let depth = c.depth;
                     if depth == 0 {
-                        let next = walk_of(walk.image_len, bound, WalkState::Ended, c, buf, stack);
+                        let next = walk_of(
+                            walk.image_len,
+                            bound,
+                            mode,
+                            WalkState::Ended,
+                            c,
+                            buf,
+                            stack,
+                        );
                         return came_to(keys, Answer::Nothing, moves, next);
                     }
                     let parent = stack[depth - 1];
@@ -270,6 +290,7 @@ fn advance_by(walk: Walk, image: &[u8], whole: bool) -> Advanced
                             let after = walk_of(
                                 walk.image_len,
                                 bound,
+                                mode,
                                 WalkState::FindNext,
                                 next,
                                 buf,
@@ -283,6 +304,7 @@ fn advance_by(walk: Walk, image: &[u8], whole: bool) -> Advanced
                         let after = walk_of(
                             walk.image_len,
                             bound,
+                            mode,
                             WalkState::Ended,
                             next,
                             buf,

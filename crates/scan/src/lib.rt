@@ -5,7 +5,6 @@
 use crate::scan_state::Answer;
 use crate::scan_state::LayerContext;
 use crate::scan_state::Placed;
-use crate::scan_state::StartMode;
 use crate::scan_state::Stepped;
 use crate::scan_state::Walk;
 use crate::scan_state::WalkState;
@@ -14,6 +13,7 @@ use cursor::cursor_key::CursorKey;
 use cursor::cursor_key::CursorPlace;
 use cursor::range_bound;
 use cursor::range_bound::RangeBound;
+use cursor::range_bound::StartMode;
 use moves::fast_path;
 use moves::fast_path::FastSlot;
 use node::leaf;
@@ -48,6 +48,7 @@ fn zero_walk() -> Walk
             len: 0,
             key: [0u8; 256],
         },
+        mode: StartMode::Above,
         state: WalkState::Ended,
     }
 }
@@ -60,7 +61,7 @@ fn place_fault(image: &[u8], cursor: &[u8], kind: u8, bound: &[u8]) -> u8
     if heading != 0 {
         return heading;
     }
-    if 8 < cursor.len() {
+    if 256 < cursor.len() {
         return 11;
     }
     if 2 < kind {
@@ -72,9 +73,13 @@ fn place_fault(image: &[u8], cursor: &[u8], kind: u8, bound: &[u8]) -> u8
     0
 }
 
-fn start_state(mode: StartMode) -> WalkState
-    ensures { λ r. ⌜ r ≡ startState mode ⌝ }
+// The state of a walk whose cursor has n bytes: past eight Start in both modes.
+fn start_state(mode: StartMode, n: usize) -> WalkState
+    ensures { λ r. ⌜ r ≡ startState mode n ⌝ }
 {
+    if 8 < n {
+        return WalkState::Start;
+    }
     match mode {
         StartMode::Above => WalkState::Retry,
         StartMode::From => WalkState::Start,
@@ -103,7 +108,8 @@ pub fn place(image: &[u8], mode: StartMode, cursor: &[u8], kind: u8, bound: &[u8
             depth: 0,
             stack: [LayerContext { root: 0, leaf: 0 }; 31],
             bound: range_bound::bound_of(kind, bound),
-            state: start_state(mode),
+            mode: mode,
+            state: start_state(mode, cursor.len()),
         },
     }
 }

@@ -1,13 +1,8 @@
 // What a walk keeps between calls, and what its calls answer (the Rust's scan_state.rs).
 use cursor::cursor_key::CursorKey;
 use cursor::range_bound::RangeBound;
+use cursor::range_bound::StartMode;
 use node::permuter::Position;
-
-// Where a walk begins: above its cursor, or from it on.
-pub enum StartMode {
-    Above,
-    From,
-}
 
 // A layer that the walk has entered: the root and the leaf of the layer above.
 pub struct LayerContext {
@@ -33,6 +28,7 @@ pub struct Walk {
     pub depth: usize,
     pub stack: [LayerContext; 31],
     pub bound: RangeBound,
+    pub mode: StartMode,
     pub state: WalkState,
 }
 

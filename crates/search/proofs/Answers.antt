@@ -3,18 +3,26 @@
 use mathlib.Core.Path.{_≡_}
 use mathlib.Core.Bool.{Bool, true, false, not}
 use mathlib.Core.List.{List}
-use Prim.Native.Nat.{ℕ, _≤_, _<_}
+use Prim.Native.Nat.{ℕ, _+_, _≤_, _<_}
 use native.Mathlib.Omega.{arith}
-use borrow.Author.Tests.{le-leb, lt-leb, eq-eqb, ne-eqb}
-use lib.Dec.{leb, eqb}
+use borrow.Author.Tests.{le-ltb, lt-ltb, le-leb, lt-leb, eq-eqb, ne-eqb}
+use lib.Dec.{ltb, leb, eqb}
+use lib.ListN.{length}
+use Rattle.node.specs.Layout.{suffixAt}
+use Rattle.node.specs.declared.leaf.Suffix.{Suffix}
+use Rattle.cursor.specs.declared.range_bound.StartMode.{StartMode}
+use Rattle.search.proofs.TraversalLaws.{in-image}
 use Rattle.base.specs.Pick.{pick}
-use Rattle.base.proofs.Choice.{choices}
 use Rattle.key.specs.Order.{order, byteOrder}
 use Rattle.key.specs.declared.Ordering.{Ordering}
 use Rattle.key.proofs.Turns.{order-less, order-equal, order-greater}
-use Rattle.search.specs.Helper.{byOrder, storedIs, notShorter, notBelow, pastInline, below}
+use Rattle.search.specs.Helper.{byOrder, suffixReadable, storedIs, notShorter, notBelow, pastInline}
+use Rattle.search.specs.Start.{shortVerdict, byVerdict}
 use Rattle.search.specs.declared.helper.StoredOrder.{StoredOrder}
+use Rattle.node.specs.declared.permuter.Slot.{Slot}
 use Rattle.search.specs.declared.helper.Searched.{Searched}
+use Rattle.search.specs.declared.start.Verdict.{Verdict}
+use Rattle.search.specs.declared.start.Started.{Started}
 use Rattle.cursor.specs.declared.cursor_key.CursorPlace.{CursorPlace}
 
 module _ {A : Type 0} (a b x : ℕ) (e : x ≡ a) where
@@ -46,6 +54,38 @@ module _ {A : Type 0} (a b x : ℕ) (e : x ≡ a) where
   unfolding byOrder
   by-greater l m g z h d f = rw (← e, order-greater b x (omega arith)) f
 
+  -- the other way round
+  pub is-under : (l m g z : A) → x < b → z ≡ l → z ≡ byOrder (order a b) l m g
+  unfolding byOrder
+  is-under l m g z h f = rw (← e, order-less x b h) f
+
+  pub is-level : (l m g z : A) → b ≤ x → x ≤ b → z ≡ m → z ≡ byOrder (order a b) l m g
+  unfolding byOrder
+  is-level l m g z h d f = rw (← e, order-equal x b (omega arith) (omega arith)) f
+
+  pub is-over : (l m g z : A) → b < x → z ≡ g → z ≡ byOrder (order a b) l m g
+  unfolding byOrder
+  is-over l m g z h f = rw (← e, order-greater x b h) f
+
+  pub fits : (p q z : A) → x ≤ b → z ≡ p → z ≡ pick (leb a b) p q
+  unfolding pick
+  fits p q z h g = rw (← e, le-leb x b h) g
+
+  pub exceeds : (p q z : A) → b < x → z ≡ q → z ≡ pick (leb a b) p q
+  unfolding pick
+  exceeds p q z h g = rw (← e, lt-leb x b h) g
+
+  pub is-such : (p q z : A) → x ≡ b → z ≡ p → z ≡ pick (eqb a b) p q
+  unfolding pick
+  is-such p q z h g = rw (← e, eq-eqb x b h) g
+
+  pub is-other : (p q z : A) → (x ≡ b → ⊥) → z ≡ q → z ≡ pick (eqb a b) p q
+  unfolding pick
+  is-other p q z h g = rw (← e, ne-eqb x b h) g
+
+-- Those of a number that is compared with another, for `search`.
+pub ruleset by-number = (is-under, is-level, is-over, fits, exceeds, reaches, falls-short, is-such, is-other)
+
 -- The order o of a cursor's suffix s to a stored one t, which the definition reads as u.
 pub stored-as : (o v : Ordering) (s t u : List ℕ) (z : StoredOrder) → o ≡ byteOrder s t → t ≡ u → o ≡ v → z ≡ storedIs v → z ≡ storedIs (byteOrder s u)
 stored-as o v s t u z e f h g = rw (← f, ← e, h) g
@@ -57,7 +97,7 @@ pub past-inline-as : (image : List ℕ) (leaf : ℕ) (k : CursorPlace) (i a x : 
     → z ≡ pastInline image leaf k i (order (k .len) x) → z ≡ pastInline image leaf k i (order (k .len) a)
 past-inline-as image leaf k i a x z e g = rw (← e) g
 
--- The answers of `is_not_shorter` and `is_below` on numbers x and y that calls returned.
+-- The answer of `is_not_shorter` on a number x that a call returned.
 module _ {A : Type 0} (a x : ℕ) (e : x ≡ a) (r : Bool) (p q z : A) where
   pub long : (len : ℕ) → r ≡ notShorter x len → r ≡ true → z ≡ p → z ≡ pick (notShorter a len) p q
   unfolding pick
@@ -67,8 +107,32 @@ module _ {A : Type 0} (a x : ℕ) (e : x ≡ a) (r : Bool) (p q z : A) where
   unfolding pick
   short len f t g = rw (← e, ← f, t) g
 
-  pub under : (k : CursorPlace) (b y : ℕ) → y ≡ b → r ≡ below k x y → not r ≡ false → z ≡ p → z ≡ pick (below k a b) p q
-  under k b y d f t g = rw (← e, ← d) (search choices)
+-- What Start makes of a slot, where a call gave the verdict o, which is v.
+pub verdict-as : (o v w : Verdict) (i : ℕ) (slot : Slot) (rest z : Started) → o ≡ w → o ≡ v → z ≡ byVerdict v i slot rest
+    → z ≡ byVerdict w i slot rest
+verdict-as o v w i slot rest z e h g = rw (← e, h) g
 
-  pub not-under : (k : CursorPlace) (b y : ℕ) → y ≡ b → r ≡ below k x y → not r ≡ true → z ≡ q → z ≡ pick (below k a b) p q
-  not-under k b y d f t g = rw (← e, ← d) (search choices)
+-- A suffix that may be read lies in the image; and its length f, which the definition reads as g.
+pub suffix-in : (image : List ℕ) (leaf : ℕ) (s : Slot) → suffixReadable image leaf s ≡ true
+    → suffixAt image leaf s .start + suffixAt image leaf s .len + 32 ≤ length image
+unfolding suffixReadable
+suffix-in image leaf s h = in-image image (suffixAt image leaf s .start) (suffixAt image leaf s .len) h .1
+
+module _ {A : Type 0} (n : ℕ) (f g : Suffix) (e : f ≡ g) where
+  pub key-over : (p q z : A) → 256 < n + 8 + f .len → z ≡ p → z ≡ pick (ltb 256 (n + 8 + g .len)) p q
+  unfolding pick
+  key-over p q z h d = rw (← e, lt-ltb 256 (n + 8 + f .len) h) d
+
+  pub key-fits : (p q z : A) → n + 8 + f .len ≤ 256 → z ≡ q → z ≡ pick (ltb 256 (n + 8 + g .len)) p q
+  unfolding pick
+  key-fits p q z h d = rw (← e, le-ltb 256 (n + 8 + f .len) h) d
+
+-- The order o of two byte strings that calls gave, which the definition reads as u and w.
+pub order-as : {A : Type 0} (o v : Ordering) (s t u w : List ℕ) (l m g z : A) → o ≡ byteOrder s t → s ≡ u → t ≡ w → o ≡ v
+    → z ≡ byOrder v l m g → z ≡ byOrder (byteOrder u w) l m g
+order-as o v s t u w l m g z e a b h d = rw (← a, ← b, ← e, h) d
+
+-- What the short test says of numbers x and y that calls gave.
+pub short-as : (mode : StartMode) (k : CursorPlace) (x y a b : ℕ) (z : Verdict) → x ≡ a → y ≡ b → z ≡ shortVerdict mode k x y
+    → z ≡ shortVerdict mode k a b
+short-as mode k x y a b z e f g = rw (← e, ← f) g

@@ -1,4 +1,4 @@
--- The four searches over a leaf's positions as loops: a turn of each, and its end. Assumes nothing.
+-- The three searches over a leaf's positions as loops: a turn of each, and its end. Assumes nothing.
 use mathlib.Core.Path.{refl}
 use mathlib.Core.Bool.{not}
 use mathlib.Core.List.{List}
@@ -9,7 +9,7 @@ use Rattle.key.specs.Order.{order}
 use Rattle.node.specs.Layout.{ikeyAt, keylenxAt}
 use Rattle.node.specs.declared.permuter.Slot.{Slot}
 use Rattle.cursor.specs.declared.cursor_key.CursorPlace.{CursorPlace}
-use Rattle.search.specs.Helper.{position, byOrder, lowerFrom, storedOrder, notShorter, afterInline, notBelow, afterSuffix, below, startFrom}
+use Rattle.search.specs.Helper.{position, byOrder, lowerFrom, storedOrder, notShorter, afterInline, notBelow, afterSuffix}
 use Rattle.search.specs.declared.helper.KeyIndexedPosition.{KeyIndexedPosition}
 use Rattle.search.specs.declared.helper.KeyIndexedPosition.the-variants.{NotFound, Found, Fault}
 use Rattle.search.specs.declared.helper.Searched.{Searched}
@@ -54,22 +54,6 @@ module _ (image : List ℕ) (leaf : ℕ) where
 
     pub inline-stop : Stops (λ i. At (position i)) (afterInline image leaf k)
     inline-stop = stops inline-loop
-
-    abbrev pub startTurn : ℕ → Slot → Searched → Searched
-    startTurn i slot rest = pick (below k (ikeyAt image leaf slot) (keylenxAt image leaf slot)) rest (At (position i))
-
-    pub start-loop : Loop image leaf SearchedFault (λ i. At (position i)) startTurn (startFrom image leaf k)
-    unfolding startFrom
-    start-loop = record { none = λ i. refl; more = λ i n. refl }
-
-    pub start-fault : Faults image leaf SearchedFault (startFrom image leaf k)
-    start-fault = faults start-loop
-
-    pub start-turn : Turns image leaf startTurn (startFrom image leaf k)
-    start-turn = turns start-loop
-
-    pub start-stop : Stops (λ i. At (position i)) (startFrom image leaf k)
-    start-stop = stops start-loop
 
     module _ (buf : List ℕ) where
       abbrev pub suffixTurn : ℕ → Slot → Searched → Searched

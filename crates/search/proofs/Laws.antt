@@ -19,7 +19,7 @@ use Rattle.search.specs.declared.traversal.RecordKind.{RecordKind}
 use Rattle.search.specs.declared.traversal.RecordKind.the-variants.{Leaf, Internode, Unreadable}
 use Rattle.search.specs.declared.traversal.Reached.{Reached}
 use Rattle.search.specs.declared.traversal.Reached.the-variants.{Leaf as ReachedLeaf, Fault as ReachedFault}
-use Rattle.search.specs.Helper.{slotIn, byOrder, lowerWithPosition, storedOrder, afterInline, notBelow, afterSuffix, behind, pastLayer, pastInline, pastSuffix, atMatch, atFound, lowerWithSuffix, startPosition}
+use Rattle.search.specs.Helper.{slotIn, byOrder, lowerWithPosition, storedOrder, afterInline, notBelow, afterSuffix, behind, pastLayer, pastInline, pastSuffix, atMatch, atFound, lowerWithSuffix}
 use Rattle.search.specs.declared.helper.KeyIndexedPosition.{KeyIndexedPosition}
 use Rattle.search.specs.declared.helper.KeyIndexedPosition.the-variants.{NotFound, Found, Fault}
 use Rattle.search.specs.declared.helper.StoredOrder.{StoredOrder}
@@ -28,7 +28,7 @@ use Rattle.search.specs.declared.helper.Searched.{Searched}
 use Rattle.search.specs.declared.helper.Searched.the-variants.{At, Fault as SearchedFault}
 use Rattle.search.proofs.TraversalLaws.{in-image, in-record, not-first, not-second, turnOf}
 use Rattle.search.proofs.LoopLaws.{all-turns}
-use Rattle.search.proofs.HelperLaws.{lower-loop, inline-loop, suffix-loop, start-loop}
+use Rattle.search.proofs.HelperLaws.{lower-loop, inline-loop, suffix-loop}
 
 is-leaf : (k : RecordKind) → byKind k true false false ≡ true → k ≡ Leaf
 unfolding byKind
@@ -110,15 +110,6 @@ module _ (image : List ℕ) (leaf : ℕ) where
     inline-within =
         all-turns (inline-loop image leaf k) Within size tt (λ i h. h)
         (λ i rest h s r. pick-ind Within _ (λ t. omega arith) (λ f. pick-ind Within _ (λ t. omega arith) (λ f. r)))
-
-    start-is-within : Within (startPosition image leaf k)
-    unfolding startPosition
-    start-is-within =
-        all-turns (start-loop image leaf k) Within size tt (λ i h. h) (λ i rest h s r. pick-ind Within _ (λ t. r) (λ f. omega arith)) 0 size
-        (omega arith)
-
-    pub start-within : (p : Position) → startPosition image leaf k ≡ At p → p .0 ≤ size
-    start-within p e = rw e at start-is-within
 
     -- past the first slot of the cursor's ikey
     past-inline : (i : ℕ) (o : Ordering) → i < size → Within (pastInline image leaf k i o)

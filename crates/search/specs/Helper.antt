@@ -128,16 +128,3 @@ atFound image leaf k buf Fault = SearchedFault
 -- `lower_with_suffix`: where a walk that has come to the cursor goes on in a leaf.
 unfoldable pub lowerWithSuffix : List ℕ → ℕ → CursorPlace → List ℕ → Searched
 lowerWithSuffix image leaf k buf = atFound image leaf k buf (lowerWithPosition image leaf (k .ikey))
-
--- Start: "the first slot whose ikey, then `keylenx`, is not below the cursor's ikey, then length, else past the last".
-unfoldable pub below : CursorPlace → ℕ → ℕ → Bool
-below k ikey keylenx = pick (ltb ikey (k .ikey)) true (pick (eqb ikey (k .ikey)) (ltb keylenx (k .len)) false)
-
-unfoldable pub startFrom : List ℕ → ℕ → CursorPlace → ℕ → ℕ → Searched
-startFrom image leaf k i zero = At (position i)
-startFrom image leaf k i (suc n) =
-    pick (leb 15 (slotIn image leaf i .0)) SearchedFault
-    (pick (below k (ikeyAt image leaf (slotIn image leaf i)) (keylenxAt image leaf (slotIn image leaf i))) (startFrom image leaf k (i + 1) n) (At (position i)))
-
-unfoldable pub startPosition : List ℕ → ℕ → CursorPlace → Searched
-startPosition image leaf k = startFrom image leaf k 0 (sizeOf (permutationAt image leaf))

@@ -1,2 +1,3 @@
 pub mod Traversal
 pub mod Helper
+pub mod Start

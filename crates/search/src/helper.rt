@@ -13,7 +13,7 @@ ghost use lib.ListN.{length};
 ghost use Rattle.key.specs.Order.{order};
 ghost use Rattle.node.specs.Layout.{InLeaf, InSlot, permutationAt};
 ghost use Rattle.node.specs.Permuter.{sizeOf};
-ghost use Rattle.search.specs.Helper.{lowerWithPosition, suffixReadable, suffixBytes, storedOrder, notShorter, afterInline, afterSuffix, behind, pastInline, pastSuffix, atMatch, lowerWithSuffix, below, startPosition};
+ghost use Rattle.search.specs.Helper.{lowerWithPosition, suffixReadable, suffixBytes, storedOrder, notShorter, afterInline, afterSuffix, behind, pastInline, pastSuffix, atMatch, lowerWithSuffix};
 
 // Where a search by ikey comes to (the Rust's KeyIndexedPosition): a position, with the slot there where its ikey is the
 // one searched for; or a slot of 15 was met.
@@ -282,41 +282,4 @@ pub fn lower_with_suffix(image: &[u8], leaf: usize, k: CursorPlace, buf: &[u8; 2
         KeyIndexedPosition::Found(p, slot) => at_match(image, leaf, k, buf, p, slot),
         KeyIndexedPosition::Fault => Searched::Fault,
     }
-}
-
-// Whether a slot's ikey, then keylenx, is below the cursor's ikey, then length.
-fn is_below(k: CursorPlace, ikey: u64, keylenx: usize) -> bool
-    ensures { λ r. ⌜ r ≡ below k ikey keylenx ⌝ }
-{
-    if ikey < k.ikey {
-        return true;
-    }
-    if ikey == k.ikey {
-        return keylenx < k.len;
-    }
-    false
-}
-
-// Start: the first slot that is not below the cursor, else past the last.
-pub fn start_position(image: &[u8], leaf: usize, k: CursorPlace) -> Searched
-    requires { ⌜ InLeaf (now image) leaf ⌝ }
-    ensures { λ r. ⌜ r ≡ startPosition (now (image .entry)) leaf k ⌝ }
-{
-    let permutation = leaf::permutation(image, leaf);
-    let size = permuter::size(permutation);
-    let mut i = 0;
-    while i < size {
-        let slot = permuter::get(permutation, Position(i));
-        let s = slot.0;
-        if 15 <= s {
-            return Searched::Fault;
-        }
-        let ikey = leaf::ikey(image, leaf, slot);
-        let keylenx = leaf::keylenx(image, leaf, slot);
-        if !is_below(k, ikey, keylenx as usize) {
-            return Searched::At(Position(i));
-        }
-        i += 1;
-    }
-    Searched::At(Position(i))
 }

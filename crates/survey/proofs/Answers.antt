@@ -17,7 +17,7 @@ use Rattle.verify.specs.declared.Checked.{Checked}
 use Rattle.verify.specs.declared.Checked.the-variants as checked
 use Rattle.scan.specs.Machine.{placeFault, place, placeAbove}
 use Rattle.scan.specs.Loop.{keysLeft}
-use Rattle.scan.specs.declared.scan_state.StartMode.the-variants.{Above}
+use Rattle.cursor.specs.declared.range_bound.StartMode.the-variants.{Above}
 use Rattle.scan.specs.declared.scan_state.Placed.{Placed}
 use Rattle.demands.specs.Demand.{rowOf}
 use Rattle.survey.specs.declared.Tallied.the-variants.{Counted, Declined}
@@ -36,7 +36,7 @@ module _ (image : List ℕ) (cursor : List ℕ) (kind : ℕ) (bound : List ℕ) 
   -- "then 11, 12, 13"
   pub later-numbers : (c : Counts) → check image ≡ accepted c
       → placeFault image cursor kind bound
-      ≡ pick (ltb 8 (length cursor)) 11 (pick (ltb 2 kind) 12 (pick (ltb 256 (length bound)) 13 0))
+      ≡ pick (ltb 256 (length cursor)) 11 (pick (ltb 2 kind) 12 (pick (ltb 256 (length bound)) 13 0))
   unfolding placeFault pick
   later-numbers c a = rw (no-heading-fault image c a)
 

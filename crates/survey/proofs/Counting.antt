@@ -10,7 +10,7 @@ use Rattle.verify.specs.declared.Counts.{Counts}
 use Rattle.verify.proofs.Theorem.{accepted-obeys}
 use Rattle.scan.specs.Machine.{place}
 use Rattle.scan.specs.Loop.{keysLeft}
-use Rattle.scan.specs.declared.scan_state.StartMode.{StartMode}
+use Rattle.cursor.specs.declared.range_bound.StartMode.{StartMode}
 use Rattle.demands.specs.Demand.{rowOf}
 use Rattle.demands.proofs.Whole.{taken, fresh-keys}
 

@@ -14,12 +14,13 @@ use Rattle.node.specs.Heading.{lengthOk, headingFault}
 use Rattle.cursor.specs.CursorKey.{fromSlice, shiftClear, unshift, hasSuffix, suffixOf, compareSlot, withIkey, withLength, storeIkey, storeSuffix}
 use Rattle.cursor.specs.RangeBound.{admits, contains, boundOf}
 use Rattle.search.specs.Traversal.{readable, recordAt, byKind, leafThere, childFor, reachFrom, reach}
-use Rattle.search.specs.Helper.{byOrder, lowerFrom, lowerWithPosition, suffixReadable, suffixBytes, storedIs, storedOrder, notShorter, afterInline, notBelow, afterSuffix, behind, pastLayer, pastInline, pastSuffix, atMatch, atFound, lowerWithSuffix, below, startFrom, startPosition}
-use Rattle.moves.specs.Moves.{faulted, standing, startIn, findStart, retryIn, findRetry, handleDown, handleUp, advanceLeaf, dupBySuffix, dupOf, kept, onward, emitKey, takeInline, takeSuffixed, takeLayer, takeSlot, unlessDup, backToRetry, findSlot, findNext}
-use Rattle.scan.specs.Machine.{emptyContext, zeroWalk, placeFault, startState, freshWalk, place, moved, entered, stacked, pushing, popped, unstacked, moveIn, move, after, run, walkOk, scanState, lastIkey, isEnded, scanOf, walkOf, stepped, finished, step}
+use Rattle.search.specs.Helper.{byOrder, lowerFrom, lowerWithPosition, suffixReadable, suffixBytes, storedIs, storedOrder, notShorter, afterInline, notBelow, afterSuffix, behind, pastLayer, pastInline, pastSuffix, atMatch, atFound, lowerWithSuffix}
+use Rattle.search.specs.Start.{shortVerdict, verdict, byVerdict, startFrom, startPosition}
+use Rattle.moves.specs.Moves.{faulted, standing, begin, startIn, findStart, retryIn, findRetry, handleDown, handleUp, advanceLeaf, dupBySuffix, dupOf, kept, onward, emitKey, takeInline, takeSuffixed, takeLayer, takeSlot, unlessDup, backToRetry, findSlot, findNext}
+use Rattle.scan.specs.Machine.{emptyContext, zeroWalk, placeFault, shortState, startState, freshWalk, place, moved, entered, stacked, pushing, movedBy, popped, unstacked, moveIn, move, after, run, walkOk, scanState, lastIkey, isEnded, scanOf, walkOf, stepped, finished, step}
 use Rattle.survey.specs.Sample.{leBytes, station, dead, layerSlot, maskFrom, words, column, leafBytes, imageOf, oneLeaf}
 use Rattle.survey.specs.Examples.{onAnswer, hand, asked, answered, machineSays, paperSays, treeA, entrance, treeB, pair, gives, walking, table}
 
 pub examples : map machineSays table ≡ map paperSays table
-unfolding pick order then byteOrder be ikeyOf digits ikeyBytes part padded le u16At u32At u64At bit atRest slotAt liveAt suffixAt upperBound lengthOk headingFault fromSlice shiftClear unshift hasSuffix suffixOf compareSlot withIkey withLength storeIkey storeSuffix admits contains boundOf readable recordAt byKind leafThere childFor reachFrom reach byOrder lowerFrom lowerWithPosition suffixReadable suffixBytes storedIs storedOrder notShorter afterInline notBelow afterSuffix behind pastLayer pastInline pastSuffix atMatch atFound lowerWithSuffix below startFrom startPosition faulted standing startIn findStart retryIn findRetry handleDown handleUp advanceLeaf dupBySuffix dupOf kept onward emitKey takeInline takeSuffixed takeLayer takeSlot unlessDup backToRetry findSlot findNext emptyContext zeroWalk placeFault startState freshWalk place moved entered stacked pushing popped unstacked moveIn move after run walkOk scanState lastIkey isEnded scanOf walkOf stepped finished step leBytes station dead layerSlot maskFrom words column leafBytes imageOf oneLeaf onAnswer hand asked answered machineSays paperSays treeA entrance treeB pair gives walking table
+unfolding pick order then byteOrder be ikeyOf digits ikeyBytes part padded le u16At u32At u64At bit atRest slotAt liveAt suffixAt upperBound lengthOk headingFault fromSlice shiftClear unshift hasSuffix suffixOf compareSlot withIkey withLength storeIkey storeSuffix admits contains boundOf readable recordAt byKind leafThere childFor reachFrom reach byOrder lowerFrom lowerWithPosition suffixReadable suffixBytes storedIs storedOrder notShorter afterInline notBelow afterSuffix behind pastLayer pastInline pastSuffix atMatch atFound lowerWithSuffix shortVerdict verdict byVerdict startFrom startPosition faulted standing begin startIn findStart retryIn findRetry handleDown handleUp advanceLeaf dupBySuffix dupOf kept onward emitKey takeInline takeSuffixed takeLayer takeSlot unlessDup backToRetry findSlot findNext emptyContext zeroWalk placeFault shortState startState freshWalk place moved entered stacked pushing movedBy popped unstacked moveIn move after run walkOk scanState lastIkey isEnded scanOf walkOf stepped finished step leBytes station dead layerSlot maskFrom words column leafBytes imageOf oneLeaf onAnswer hand asked answered machineSays paperSays treeA entrance treeB pair gives walking table
 examples = refl

@@ -9,8 +9,8 @@ use lib.ListN.{length, take, replicate}
 use Rattle.base.specs.Pick.{pick}
 use Rattle.layering.specs.Keys.{Pair}
 use Rattle.scan.specs.Machine.{place, step}
-use Rattle.scan.specs.declared.scan_state.StartMode.{StartMode}
-use Rattle.scan.specs.declared.scan_state.StartMode.the-variants.{Above, From}
+use Rattle.cursor.specs.declared.range_bound.StartMode.{StartMode}
+use Rattle.cursor.specs.declared.range_bound.StartMode.the-variants.{Above, From}
 use Rattle.scan.specs.declared.scan_state.Placed.{Placed}
 use Rattle.scan.specs.declared.scan_state.Answer.{Answer}
 use Rattle.scan.specs.declared.scan_state.Answer.the-variants.{Key, Nothing, Declined}
@@ -105,9 +105,9 @@ table =
     ∷ walking treeB From [] 1 (entrance ++ (46 ∷ 49 ∷ [])) (gives (pair (entrance ++ (46 ∷ 49 ∷ [])) 4 ∷ []) none)
     ∷ walking treeB From [] 2 (entrance ++ (46 ∷ 49 ∷ [])) (gives [] none)
     -- P9 leaf with "a", "a\0", above "a": "a\0". P10 dead "a", live "b", from "": b. P11 empty leaf, above "": none, 3 moves. P12
-    -- nine-byte cursor: 11.
+    -- nine-byte cursor: 11; 02 [1]: "Example P12 becomes a 257-byte cursor".
     ∷ walking (oneLeaf (station (97 ∷ []) 1 ∷ station (97 ∷ 0 ∷ []) 2 ∷ [])) Above (97 ∷ []) 0 [] (gives (pair (97 ∷ 0 ∷ []) 2 ∷ []) none)
     ∷ walking (oneLeaf (dead (97 ∷ []) 1 ∷ station (98 ∷ []) 2 ∷ [])) From [] 0 [] (gives (pair (98 ∷ []) 2 ∷ []) none)
     ∷ walking (oneLeaf []) Above [] 0 [] (gives [] (some 3))
-    ∷ walking treeA Above (replicate 9 97) 0 [] (record { number = 11; pairs = []; moves = none })
+    ∷ walking treeA Above (replicate 257 97) 0 [] (record { number = 11; pairs = []; moves = none })
     ∷ []

@@ -10,7 +10,7 @@ use Rattle.verify.specs.Check.{check}
 use Rattle.verify.specs.declared.Checked.{Checked}
 use Rattle.verify.specs.declared.Checked.the-variants as checked
 use Rattle.scan.specs.Machine.{placeFault}
-use Rattle.scan.specs.declared.scan_state.StartMode.the-variants.{Above}
+use Rattle.cursor.specs.declared.range_bound.StartMode.the-variants.{Above}
 use Rattle.demands.specs.Demand.{rowOf}
 use Rattle.survey.specs.declared.Tallied.{Tallied}
 use Rattle.survey.specs.declared.Tallied.the-variants.{Counted, Declined}

@@ -1,7 +1,7 @@
 -- The test of the walk's numbers stands first, then the walk's state; a walk that passes and is not ended makes its moves.
 use mathlib.Core.Path.{ap, _∙_}
 use borrow.Author.Needs.{needs}
-use Rattle.moves.proofs.Answers.{found-so, found-not}
+use Rattle.base.proofs.Choice.{found-so, found-not}
 use Rattle.scan.specs.Machine.{isEnded}
 use Rattle.scan.proofs.RunLaws.{none-declined, none-ended, counts-ahead}
 use Rattle.scan.proofs.count_keys.Statement.{statement}

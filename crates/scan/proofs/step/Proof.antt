@@ -5,7 +5,7 @@ use mathlib.Core.Bool.{false≢true}
 use native.Mathlib.Omega.{arith}
 use borrow.Author.Needs.{needs}
 use lib.ListN.{length}
-use Rattle.moves.proofs.Answers.{found-so, found-not}
+use Rattle.base.proofs.Choice.{found-so, found-not}
 use Rattle.scan.specs.Machine.{isEnded, walkOk}
 use Rattle.scan.proofs.WalkLaws.{walk-fits, step-declined, step-ended, step-advances}
 use Rattle.scan.proofs.StepLaws.{OnFast, walk-room, facts, room, fits, steps-out, steps-end}

@@ -4,7 +4,8 @@ use borrow.Author.Tests.{le-ltb, lt-ltb}
 use borrow.Author.Needs.{needs}
 use Rattle.base.specs.Pick.{pick}
 use Rattle.moves.specs.FastPath.{fastSlot}
-use Rattle.moves.proofs.Answers.{found-so, found-not, there-in}
+use Rattle.base.proofs.Choice.{found-so, found-not}
+use Rattle.moves.proofs.Answers.{there-in}
 use Rattle.moves.proofs.fast_path.fast_slot.Statement.{statement}
 use Rattle.moves.proofs.fast_path.fast_slot.Tie as tie
 

@@ -2,7 +2,7 @@
 use borrow.Author.Tests.{le-leb, lt-leb}
 use borrow.Author.Needs.{needs}
 use Rattle.moves.specs.FastPath.{isFast}
-use Rattle.moves.proofs.Answers.{found-so, found-not}
+use Rattle.base.proofs.Choice.{found-so, found-not}
 use Rattle.moves.proofs.fast_path.is_fast.Statement.{statement}
 use Rattle.moves.proofs.fast_path.is_fast.Tie as tie
 

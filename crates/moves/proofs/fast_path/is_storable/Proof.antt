@@ -3,7 +3,8 @@ use native.Mathlib.Omega.{arith}
 use borrow.Author.Tests.{le-leb, lt-leb, eq-eqb, ne-eqb}
 use borrow.Author.Needs.{needs}
 use Rattle.moves.specs.FastPath.{isStorable}
-use Rattle.moves.proofs.Answers.{found-so, found-not, suffix-in}
+use Rattle.base.proofs.Choice.{found-so, found-not}
+use Rattle.search.proofs.Answers.{suffix-in}
 use Rattle.moves.proofs.fast_path.is_storable.Statement.{statement}
 use Rattle.moves.proofs.fast_path.is_storable.Tie as tie
 

@@ -3,7 +3,8 @@ use borrow.Author.Tests.{eq-eqb, ne-eqb}
 use borrow.Author.Needs.{needs}
 use Rattle.base.specs.Pick.{pick}
 use Rattle.moves.specs.Moves.{advanceLeaf}
-use Rattle.moves.proofs.Answers.{found-so, found-not, there-in}
+use Rattle.base.proofs.Choice.{found-so, found-not}
+use Rattle.moves.proofs.Answers.{there-in}
 use Rattle.moves.proofs.forward_ctx.advance_leaf.Statement.{statement}
 use Rattle.moves.proofs.forward_ctx.advance_leaf.Tie as tie
 

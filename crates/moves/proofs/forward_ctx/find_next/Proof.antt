@@ -4,7 +4,8 @@ use borrow.Author.Tests.{le-leb, lt-leb}
 use borrow.Author.Needs.{needs}
 use Rattle.base.specs.Pick.{pick}
 use Rattle.moves.specs.Moves.{kept, findNext}
-use Rattle.moves.proofs.Answers.{found-so, found-not, there-in}
+use Rattle.base.proofs.Choice.{found-so, found-not}
+use Rattle.moves.proofs.Answers.{there-in}
 use Rattle.moves.proofs.forward_ctx.find_next.Statement.{statement}
 use Rattle.moves.proofs.forward_ctx.find_next.Tie as tie
 

@@ -5,7 +5,8 @@ use borrow.Author.Tests.{le-ltb, lt-ltb, le-leb, lt-leb, eq-eqb, ne-eqb}
 use borrow.Author.Needs.{needs}
 use Rattle.base.specs.Pick.{pick}
 use Rattle.moves.specs.Moves.{kept, takeSlot}
-use Rattle.moves.proofs.Answers.{found-so, found-not, suffix-in}
+use Rattle.base.proofs.Choice.{found-so, found-not}
+use Rattle.search.proofs.Answers.{suffix-in}
 use Rattle.moves.proofs.forward_ctx.take_slot.Statement.{statement}
 use Rattle.moves.proofs.forward_ctx.take_slot.Tie as tie
 

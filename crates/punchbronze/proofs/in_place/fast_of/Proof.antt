@@ -3,7 +3,7 @@ use mathlib.Core.Bool.{false≢true}
 use borrow.Author.Tests.{eq-eqb, ne-eqb}
 use borrow.Author.Needs.{needs}
 use Rattle.base.specs.Pick.{pick}
-use Rattle.moves.proofs.Answers.{found-so, found-not}
+use Rattle.base.proofs.Choice.{found-so, found-not}
 use Rattle.punchbronze.specs.InPlace.{fastOf}
 use Rattle.punchbronze.proofs.InPlace.{offset-low}
 use Rattle.punchbronze.proofs.in_place.fast_of.Statement.{statement}

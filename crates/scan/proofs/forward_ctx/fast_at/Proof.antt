@@ -2,7 +2,7 @@
 use mathlib.Core.Path.{_∙_}
 use borrow.Author.Needs.{needs}
 use borrow.Author.Tests.{not-true, not-false, eq-eqb, ne-eqb}
-use Rattle.moves.proofs.Answers.{found-so, found-not}
+use Rattle.base.proofs.Choice.{found-so, found-not}
 use Rattle.scan.proofs.FastAt.{not-whole, not-next, due-first, not-last, all-four}
 use Rattle.scan.proofs.forward_ctx.fast_at.Statement.{statement}
 use Rattle.scan.proofs.forward_ctx.fast_at.Tie as tie

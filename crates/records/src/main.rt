@@ -1,0 +1,196 @@
+// 02's examples of a walk, executed over the C interface: the requests of tools/examples.py (see `requests`). Behind each stand its
+// alterations, their length in two bytes first: the walk's record is altered by them before the first step, so that walks which no
+// placing gives can be asked for. Every step is printed with its moves; where one is declined, with the record after it. A request's
+// form is not looked at.
+use node::le;
+use requests::Read;
+use requests::first;
+use requests::item;
+use requests::line;
+use requests::put;
+use requests::put_hex;
+
+// The requests: more than there are.
+const MOST: usize = 1000;
+
+// The numbers of a record.
+const NUMBERS: usize = 74;
+
+// An alteration: its bytes, and the index of the buffer's first byte among what it may alter.
+const WIDTH: usize = 10;
+
+const BUFFER: usize = 256;
+
+// The steps of one request: more than are asked for.
+const STEPS: usize = 100;
+
+// One alteration: an index in two bytes and a value in eight. Below 74 it is a number's, from 256 on a byte's of the buffer.
+fn alter_one(numbers: &mut [u64; NUMBERS], buf: &mut [u8; 256], index: usize, value: u64) {
+    if index < NUMBERS {
+        numbers[index] = value;
+    }
+    if BUFFER <= index && index - BUFFER < 256 {
+        buf[index - BUFFER] = (value % 256) as u8;
+    }
+}
+
+fn alter(numbers: &mut [u64; NUMBERS], buf: &mut [u8; 256], changes: &[u8]) {
+    let mut i = 0;
+    while i < changes.len() / WIDTH {
+        let at = i * WIDTH;
+        let index = le::u16_at(changes, at);
+        let value = le::u64_at(changes, at + 2);
+        alter_one(numbers, buf, index as usize, value);
+        i += 1;
+    }
+}
+
+// A record's numbers but for the image's length, the bound and what is stacked.
+fn put_numbers(numbers: &[u64; NUMBERS]) {
+    item(b" root ", numbers[1]);
+    item(b" leaf ", numbers[2]);
+    item(b" position ", numbers[3]);
+    item(b" offset ", numbers[4]);
+    item(b" length ", numbers[5]);
+    item(b" depth ", numbers[7]);
+    item(b" state ", numbers[10]);
+    item(b" mode ", numbers[11]);
+}
+
+// One step; whether it handed out a key.
+fn step(
+    name: &[u8],
+    numbers: &mut [u64; NUMBERS],
+    buf: &mut [u8; 256],
+    bound: &[u8; 256],
+    image: &[u8],
+) -> bool {
+    let mut out = [0u64; 4];
+    let code = punchbronze::pb_step(numbers, buf, bound, image, &mut out);
+    put(name);
+    if code != 0 {
+        item(b" declined ", code as u64);
+        put_numbers(numbers);
+        put(b"\n");
+        return false;
+    }
+    if out[0] == 1 {
+        put(b" key ");
+        put_hex(first(buf, out[1] as usize));
+        item(b" ", out[2]);
+    } else {
+        put(b" none");
+    }
+    item(b" moves ", out[3]);
+    put(b"\n");
+    out[0] == 1
+}
+
+fn steps(
+    name: &[u8],
+    numbers: &mut [u64; NUMBERS],
+    buf: &mut [u8; 256],
+    bound: &[u8; 256],
+    image: &[u8],
+) {
+    let mut left = STEPS;
+    while 0 < left && step(name, numbers, buf, bound, image) {
+        left -= 1;
+    }
+}
+
+// The placing: mode 1 is from, and any other above.
+fn place(
+    mode: u8,
+    kind: u8,
+    cursor: &[u8],
+    bound_key: &[u8],
+    image: &[u8],
+    numbers: &mut [u64; NUMBERS],
+    buf: &mut [u8; 256],
+    bound: &mut [u8; 256],
+) -> u8 {
+    if mode == 1 {
+        return punchbronze::pb_place_from(image, cursor, kind, bound_key, numbers, buf, bound);
+    }
+    punchbronze::pb_place_above(image, cursor, kind, bound_key, numbers, buf, bound)
+}
+
+// The placing, the alterations, and the steps up to the first that hands out no key.
+fn run(
+    name: &[u8],
+    mode: u8,
+    kind: u8,
+    cursor: &[u8],
+    bound_key: &[u8],
+    image: &[u8],
+    changes: &[u8],
+) {
+    let mut numbers = [0u64; NUMBERS];
+    let mut buf = [0u8; 256];
+    let mut bound = [0u8; 256];
+    let code = place(
+        mode,
+        kind,
+        cursor,
+        bound_key,
+        image,
+        &mut numbers,
+        &mut buf,
+        &mut bound,
+    );
+    line(name, b" placed ", code as usize);
+    if code == 0 {
+        alter(&mut numbers, &mut buf, changes);
+        steps(name, &mut numbers, &mut buf, &bound, image);
+    }
+}
+
+// A request's answers, its alterations read first; false where the input has none.
+fn altered(name: &[u8], mode: u8, kind: u8, cursor: &[u8], bound_key: &[u8], image: &[u8]) -> bool {
+    let mut changes = [0u8; 512];
+    let Read::Number(n) = requests::field(&mut changes, 2) else {
+        return false;
+    };
+    run(
+        name,
+        mode,
+        kind,
+        cursor,
+        bound_key,
+        image,
+        first(&changes, n),
+    );
+    true
+}
+
+// Reads one request and prints its answers; false at the end of the input.
+fn one(image: &mut [u8]) -> bool {
+    let r = requests::read_request(image);
+    if !r.more {
+        return false;
+    }
+    let name = r.name;
+    let cursor = r.cursor;
+    let bound = r.bound;
+    altered(
+        first(&name, r.name_len),
+        r.mode,
+        r.kind,
+        first(&cursor, r.cursor_len),
+        first(&bound, r.bound_len),
+        first(image, r.image_len),
+    )
+}
+
+fn all(image: &mut [u8]) {
+    let mut left = MOST;
+    while 0 < left && one(image) {
+        left -= 1;
+    }
+}
+
+fn main() {
+    let mut space = io::large_buffer();
+    all(&mut space);
+}

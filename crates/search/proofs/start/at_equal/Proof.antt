@@ -1,0 +1,15 @@
+-- Each mode has its arm.
+use borrow.Author.Needs.{needs}
+use Rattle.search.specs.Start.{atEqual}
+use Rattle.search.proofs.start.at_equal.Statement.{statement}
+use Rattle.search.proofs.start.at_equal.Tie as tie
+
+pub at-equal-spec : {M : Type 1} → statement M
+unfolding atEqual
+at-equal-spec =
+    tie.close
+    (tie.spec
+    (λ c. search needs)
+    (λ c. search needs)
+    (λ c. rw (c .enum-told .given .1))
+    (λ c. rw (c .enum-told2 .given .1)))

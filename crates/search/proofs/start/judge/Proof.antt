@@ -1,0 +1,21 @@
+-- The tests stand in the order of the definition.
+use borrow.Author.Needs.{needs}
+use Rattle.base.proofs.Choice.{choices}
+use Rattle.search.specs.Start.{verdict}
+use Rattle.search.proofs.Answers.{short-as}
+use Rattle.search.proofs.start.judge.Statement.{statement}
+use Rattle.search.proofs.start.judge.Tie as tie
+
+pub judge-spec : {M : Type 1} → statement M
+unfolding verdict
+judge-spec =
+    tie.close
+    (tie.spec
+    (λ c κs. search needs)
+    (λ c κs. search needs)
+    (λ c. search choices)
+    (λ c κs. search needs)
+    (λ c κs. search needs)
+    (λ c. search needs)
+    (λ c κs. search needs)
+    (λ c. search (choices, short-as)))

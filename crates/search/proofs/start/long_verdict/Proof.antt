@@ -1,0 +1,21 @@
+-- The tests stand in the order of the definition.
+use borrow.Author.Needs.{needs}
+use Rattle.search.proofs.Answers.{by-number}
+use Rattle.search.specs.Start.{longVerdict}
+use Rattle.search.proofs.start.long_verdict.Statement.{statement}
+use Rattle.search.proofs.start.long_verdict.Tie as tie
+
+pub long-verdict-spec : {M : Type 1} → statement M
+unfolding longVerdict
+long-verdict-spec =
+    tie.close
+    (tie.spec
+    (λ c κs. search needs)
+    (λ c. search by-number)
+    (λ c. search by-number)
+    (λ c κs. search needs)
+    (λ c. search by-number)
+    (λ c. search by-number)
+    (λ c κs. search needs)
+    (λ c. search by-number)
+    (λ c. search by-number))

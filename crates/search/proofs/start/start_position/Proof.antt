@@ -1,0 +1,46 @@
+-- The search comes to the place that its definition names. The invariant: from position i on it comes to the same as the whole.
+use mathlib.Core.Path.{_≡_}
+use Prim.Native.Nat.{_≤_, _-_}
+use native.Mathlib.Nat.{sub-zero}
+use borrow.Author.Needs.{needs}
+use Rattle.search.specs.Start.{byVerdict, startFrom, startPosition}
+use Rattle.search.proofs.Answers.{verdict-as}
+use Rattle.search.proofs.StartLaws.{start-fault, start-turn, start-stop}
+use Rattle.search.proofs.start.start_position.Statement.{statement}
+use Rattle.search.proofs.start.start_position.Tie as tie
+
+abbrev Inv-loop : tie.InvT-loop
+Inv-loop mode image leaf k buf permutation size i₀ i =
+    (i ≤ size) × (startFrom mode image leaf k buf i (size - i) ≡ startPosition mode image leaf k buf)
+
+abbrev μ-loop : tie.MeasureT-loop
+μ-loop mode image leaf k buf permutation size i₀ i = size - i
+
+loop-holds : tie.Need-loop-holds Inv-loop μ-loop
+unfolding startPosition
+loop-holds c = (search needs, rw (sub-zero, c .size .ensures, c .before .permutation .ensures))
+
+pub start-position-spec : {M : Type 1} → statement M
+unfolding startPosition byVerdict
+start-position-spec =
+    tie.close
+    (tie.spec
+    Inv-loop
+    μ-loop
+    (λ c κs. search needs)
+    (λ c κs. search needs)
+    loop-holds
+    (λ c κs. search needs)
+    (λ c. search start-fault)
+    (λ c κs. search needs)
+    (λ c. search needs)
+    (λ c. search needs)
+    (λ c. search needs)
+    (λ c. (search needs, search (start-turn, verdict-as)))
+    (λ c. search needs)
+    (λ c. search (start-turn, verdict-as))
+    (λ c. search needs)
+    (λ c. search (start-turn, verdict-as))
+    (λ c. search needs)
+    (λ c. search (start-turn, verdict-as))
+    (λ c. search start-stop))
