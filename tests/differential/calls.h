@@ -1,6 +1,6 @@
-/* The five functions as guard.c calls them: each at both sides over equal bytes, its answer held to what document 01 says of it. A
- * call must return and leave the same at both sides, its number must be one that 01 has for it, and where it is declined, what it
- * was lent must stay as it was. */
+/* The five functions as guard.c calls them: each at both sides over equal bytes, its answer held to what documents 01 and 02 [1]
+ * and the header say of it. A call must return and leave the same at both sides, its number must be one that 01 has for it, and
+ * where it is declined, what it was lent must stay as it was. */
 #ifndef CALLS_H
 #define CALLS_H
 
@@ -9,14 +9,14 @@
 
 /* What a placing or a tally is asked for. */
 struct ask {
-    uint8_t cursor[16], key[264], kind;
+    uint8_t cursor[264], key[264], kind;
     size_t cursor_len, key_len;
 };
 
-/* 01's numbers 11 to 13, or 0. */
+/* The numbers 11 to 13, or 0. */
 static int ask_fault(const struct ask *a)
 {
-    return a->cursor_len > 8 ? 11 : a->kind > 2 ? 12 : a->key_len > 256 ? 13 : 0;
+    return a->cursor_len > 256 ? 11 : a->kind > 2 ? 12 : a->key_len > 256 ? 13 : 0;
 }
 
 static void must_keep(const struct ask *a, const uint8_t *cursor, const uint8_t *key)
@@ -31,6 +31,8 @@ struct walk {
     size_t numbers_len, buf_len, bound_len;
 };
 
+#define SIZED {.numbers_len = PB_NUMBERS, .buf_len = PB_BUFFER, .bound_len = PB_BUFFER}
+
 static int is_sized(const struct walk *w)
 {
     return w->numbers_len == PB_NUMBERS && w->buf_len == PB_BUFFER && w->bound_len == PB_BUFFER;
@@ -43,11 +45,38 @@ static void blank(struct walk *w)
     memset(w->bound, 0, PB_BUFFER);
 }
 
+/* The ikey of a cursor: eight bytes, first byte highest, zero past its length. */
+static uint64_t ikey_of(const uint8_t *at, size_t len)
+{
+    uint64_t ikey = 0;
+    for (size_t i = 0; i < 8; i++) {
+        ikey = ikey << 8 | (i < len ? at[i] : 0);
+    }
+    return ikey;
+}
+
 /* How often each number was met. */
 
 enum { CHECKS, PLACINGS, STEPS, TALLIES, CALLS };
 
 static ull met[CALLS][256];
+
+/* Steps in state start with more than eight bytes left: all, those below the root layer, those that came to a deeper layer, those
+ * of them that came to the deepest, and those declined. */
+static struct {
+    ull all, below, deeper, deepest, declined;
+} starts;
+
+static void count_start(const uint64_t *before, const uint64_t *after, int code)
+{
+    if (code != 21 && before[10] == 0 && before[5] > 8) {
+        starts.all++;
+        starts.below += before[7] > 0;
+        starts.deeper += after[7] > before[7];
+        starts.deepest += after[7] > before[7] && after[7] == 31;
+        starts.declined += code != 0;
+    }
+}
 
 static int check(uint64_t counts[4], size_t counts_len)
 {
@@ -82,17 +111,16 @@ static void placed(struct walk *w, int code, int from, const struct ask *a)
     w->numbers[0] = image_len;
     w->numbers[1] = word(image + image_len - TRAILER);
     w->numbers[5] = a->cursor_len;
-    for (size_t i = 0; i < 8; i++) {
-        w->numbers[6] = w->numbers[6] << 8 | (i < a->cursor_len ? a->cursor[i] : 0);
-    }
+    w->numbers[6] = ikey_of(a->cursor, a->cursor_len);
     w->numbers[8] = a->kind;
     w->numbers[9] = a->kind ? a->key_len : 0;
-    w->numbers[10] = from ? 0 : 1;
+    w->numbers[10] = from || a->cursor_len > 8 ? 0 : 1;
+    w->numbers[11] = from;
     memcpy(w->buf, a->cursor, a->cursor_len);
     memcpy(w->bound, a->key, a->kind ? a->key_len : 0);
 }
 
-static int place(struct walk *w, int from, const struct ask *a)
+static int place(struct walk *w, int from, const struct ask *a) /* from is 0 or 1 */
 {
     int due = !is_sized(w) ? 21 : heading() ? heading() : ask_fault(a);
     struct walk want = *w, after = *w;
@@ -115,15 +143,15 @@ static int place(struct walk *w, int from, const struct ask *a)
     return due;
 }
 
-/* Whether 01's number 21 is due: no walk's record, or one out of range. */
+/* Whether number 21 is due: no walk's record, or one out of range. */
 static int is_foreign(const struct walk *w, size_t out_len)
 {
     const uint64_t *n = w->numbers;
     if (out_len != 4 || !is_sized(w)) {
         return 1;
     }
-    return n[10] > 3 || n[0] != image_len || n[7] > 31 || n[4] != 8 * n[7] || n[5] > 256 - n[4] || n[3] > 15 || n[8] > 2
-           || n[9] > 256;
+    return n[10] > 3 || n[11] > 1 || n[0] != image_len || n[7] > 31 || n[4] != 8 * n[7] || n[5] > 256 - n[4] || n[3] > 15
+           || n[8] > 2 || n[9] > 256;
 }
 
 static int step(struct walk *w, uint64_t out[8], size_t out_len)
@@ -145,6 +173,10 @@ static int step(struct walk *w, uint64_t out[8], size_t out_len)
     must(code[0] == code[1], "two steps return different numbers");
     must(memcmp(&after[0], &after[1], sizeof *w) == 0 && memcmp(said[0], said[1], sizeof said[0]) == 0, "two steps differ");
     must(memcmp(after[0].bound, w->bound, sizeof w->bound) == 0, "a step changed the bound");
+    static const int kept[] = {0, 8, 9, 11};
+    for (size_t i = 0; i < sizeof kept / sizeof *kept; i++) {
+        must(after[0].numbers[kept[i]] == w->numbers[kept[i]], "a step changed image length, bound or start mode");
+    }
     must(code[0] == 0 || (code[0] >= 21 && code[0] <= 23), "the step's number");
     must((code[0] == 21) == is_foreign(w, out_len), "21 at the wrong place");
     if (code[0] != 0) {
@@ -153,8 +185,10 @@ static int step(struct walk *w, uint64_t out[8], size_t out_len)
         const uint64_t *s = said[0];
         must(s[0] <= 1 && s[1] <= 256 && s[3] <= image_len, "what a step said");
         must(s[0] == 1 || (s[1] == 0 && s[2] == 0 && after[0].numbers[10] == 3), "none, and the walk is not ended");
+        must(s[0] == 0 || after[0].numbers[10] == 2, "a key, and the walk is not to find the next");
         must(w->numbers[10] != 3 || (s[0] == 0 && s[3] == 0 && memcmp(&after[0], w, sizeof *w) == 0), "an ended walk moved");
     }
+    count_start(w->numbers, after[0].numbers, code[0]);
     *w = after[0];
     memcpy(out, said[0], sizeof said[0]);
     met[STEPS][code[0]]++;

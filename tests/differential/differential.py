@@ -7,8 +7,9 @@
 Needs target/oracle/bin/oracle, the Rust's scan made runnable over images (oracle/build.sh), and target/bin/replay, the proved
 program (`rt check replay`). Both get the same images, accepted and damaged, cursors and bounds; every answer is compared: key,
 value, moves, and the whole walk after each call (position, leaf, root, cursor, buffer, stack). Accepted are the images that the
-port's check takes with the numbers that the builder knows; over these the keys are held against the builder's own as well. `run`
-does all of it.
+port's check takes with the numbers that the builder knows; over these the keys, and the layers that a long cursor leads into, are
+held against the builder's own as well. Up to eight bytes of cursor, above it, the Rust's loop makes the whole walk; else the Start
+moves are the oracle's, written by hand. `run` does all of it.
 """
 import argparse
 import collections
@@ -28,7 +29,9 @@ BATCH = 100                 # images for one run of the program
 MOST = 64000                # the longest image, a little under what the program reads
 CHECK, STATES = 4, 5        # the program's form that checks, and the one that prints the walk after each step
 ABOVE, FROM = 0, 1          # start modes
+SHORT, LONGEST = 8, 256     # the longest cursor that is in Retry where it is above, and the longest of all
 PACKED, EACH = 400, 20      # images in a pack, or more where a shape has not so many in it
+NAMES = 64                  # about so many keys of an image in a pack
 
 Walk = collections.namedtuple("Walk", "image look mode cursor kind bound")      # look is None for a damaged image
 
@@ -41,8 +44,9 @@ class Oracle:
         self.image = None
 
     def walk(self, w):
-        """The lines of one walk; a fault or a declined placing by its number alone. A walk over a damaged image may go round for
-        ever, a key at a time: the program stops after as many keys as the image has bytes, and so does this."""
+        """The lines of one walk, a fault or a declined placing by its number alone; and what its Start moves came to, or None: how
+        many layers they entered, and whether they stood at last. A walk over a damaged image may go round for ever, a key at a
+        time: the program stops after as many keys as the image has bytes, and so does this."""
         if w.image is not self.image:
             self.image = w.image
             self.file.seek(0)
@@ -53,21 +57,24 @@ class Oracle:
         asked = f"{verb} {self.file.name} {w.cursor.hex() or '-'} {w.kind} {w.bound.hex() or '-'} {len(w.image)}\n"
         self.process.stdin.write(asked)
         self.process.stdin.flush()
-        lines = []
+        lines, start = [], None
         while line := self.process.stdout.readline().rstrip("\n"):
-            if line.startswith(("fault", "error")):
+            if line.startswith("start"):
+                _, _, layers, _, stood = line.split()
+                start = int(layers), stood == "1"
+            elif line.startswith(("fault", "error")):
                 lines.append(" ".join(line.split()[:2]))
             elif not lines or not lines[-1].startswith(("fault", "error")):
                 lines.append(line)
         if sum(line.startswith("key") for line in lines) == len(w.image):
             lines.pop()
-        return lines
+        return lines, start
 
 
 def request(name, form, w):
     name = name.encode()
-    return (bytes([len(name)]) + name + bytes([form, w.mode, w.kind, len(w.cursor)]) + w.cursor + struct.pack("<H", len(w.bound))
-            + w.bound + struct.pack("<I", len(w.image)) + w.image)
+    return (bytes([len(name)]) + name + bytes([form, w.mode, w.kind]) + struct.pack("<H", len(w.cursor)) + w.cursor
+            + struct.pack("<H", len(w.bound)) + w.bound + struct.pack("<I", len(w.image)) + w.image)
 
 
 def port(form, walks):
@@ -118,20 +125,87 @@ def strike(r, image, look):
     return bytes(b)
 
 
+def waylay(r, image, look, cursor):
+    """Slots in the leaves that a cursor comes by changed: to its ikey; to a suffix, a layer or neither; to a slot of 15; or a
+    suffix to one with which the key has 256 bytes, or 257."""
+    b = bytearray(image)
+    way = [(len(front), leaf) for front, leaf in look.places if leaf.slots and cursor.startswith(front)]
+    met = [(off, leaf) for off, leaf in way if any(s.ikey == images.ikey(cursor[off:]) for s in leaf.slots)]
+    if not way:
+        return strike(r, image, look)
+    for _ in range(r.randrange(1, 5)):
+        off, leaf = r.choice(met or way)
+        ikey = images.ikey(cursor[off:])
+        here = [i for i, s in enumerate(leaf.slots) if s.ikey == ikey] or range(len(leaf.slots))
+        i = r.choice(here)
+        like = leaf.order[i]
+        i = (i + r.choice([-1, 0, 0, 1])) % len(leaf.slots)
+        slot = leaf.order[i]
+        sort = r.choice(["ikey", "suffix", "length", "layer", "keylenx", "field", "live"])
+        if sort in ("ikey", "suffix", "layer") and r.random() < 0.8:
+            struct.pack_into("<Q", b, leaf.at + 16 + 8 * slot, ikey)
+        if sort == "suffix":    # one that a slot has, or any bytes
+            at, n = struct.unpack_from("<II", b, leaf.at + 272 + 8 * like)
+            at, n = r.choice([(at, n), (at, n), (at, max(n - 1, 0)), (at, n + 1), (r.randrange(8, len(b)), r.randrange(40))])
+            struct.pack_into("<II", b, leaf.at + 272 + 8 * slot, at, n & 0xffffffff)
+            b[leaf.at + 136 + slot] = 64
+        elif sort == "length":
+            n = r.choice([0, 1, 8, r.randrange(260), 248 - off, 249 - off, 249 - off, len(b)])
+            struct.pack_into("<I", b, leaf.at + 276 + 8 * like, n)
+            if r.random() < 0.5:
+                struct.pack_into("<I", b, leaf.at + 272 + 8 * like, r.randrange(8, len(b)))
+                b[leaf.at + 136 + like] = 64
+        elif sort == "layer":
+            root = r.choice([leaf, r.choice(look.records), r.choice(look.records)]).at
+            struct.pack_into("<Q", b, leaf.at + 152 + 8 * slot, root)
+            b[leaf.at + 136 + slot] = r.choice([128, 200, 255])
+        elif sort == "keylenx":
+            b[leaf.at + 136 + r.choice([slot, like])] = r.choice([0, 8, 9, 63, 64, 65, 127, 128])
+        elif sort == "field":
+            perm = struct.unpack_from("<Q", b, leaf.at + 8)[0]
+            put = r.choice([15, like, r.randrange(16)])
+            struct.pack_into("<Q", b, leaf.at + 8, perm & ~(15 << 4 * i + 4) | put << 4 * i + 4)
+        elif sort == "live":
+            b[leaf.at + 4 + slot // 8] ^= 1 << slot % 8
+    return bytes(b)
+
+
 def near(r, keys):
     """A key, or one beside it."""
     k = r.choice(keys)
     return r.choice([k, k, k + b"\0", k[:-1], k[:-1] + bytes([r.randrange(256)])])[:256]
 
 
+def long_cursor(r, keys, fronts):
+    """A cursor past eight bytes: a key; one with a byte changed, some cut off or added; one that agrees for some layers and then
+    parts; a layer's front with something behind it; any; a fifth of all filled up to 256 bytes."""
+    k = r.choice(keys)
+    at = r.choice([r.randrange(len(k) + 1), max(len(k) - 1, 0)])
+    other = bytes([r.choice([r.randrange(256), (k[at] + r.choice([1, 255])) % 256])]) if at < len(k) else b"a"
+    more = r.choice([images.random_key(r, 256), shapes.some(r, r.randrange(1, 10))])
+    fill = r.choice([b"\0", b"a", b"\xff"])
+    cursor = r.choice([k, k, k[:at] + other + k[at + 1:], k[:at], k + more, k + fill, k[:at - at % 8] + more,
+                       k[:at - at % 8] + other + more, r.choice(fronts) + more, r.choice(fronts) + fill, more])
+    if r.random() < 0.2:
+        cursor = cursor.ljust(LONGEST, fill)
+    return cursor.ljust(SHORT + 1, fill)[:LONGEST]
+
+
 def walks_of(r, image, look):
-    """Six walks: four over an accepted image, and two over damaged copies of it."""
+    """Six walks: four over an accepted image, and two over damaged copies of it. Half of them past eight bytes of cursor."""
     keys = [k for k, _ in look.keys] or [b""]
-    for target in (image, image, image, image, damage(r, image), strike(r, image, look)):
-        cursor = r.choice([b"", near(r, keys)[:8], r.choice(keys)[:r.randrange(9)], images.random_key(r, 8)[:8]])
+    longer = [k for k in keys if len(k) > SHORT] or keys
+    for sort in (None, None, None, None, r.choice(["bytes", "fields"]), r.choice(["bytes", "fields", "way", "way"])):
+        if r.random() < 0.5:
+            cursor, mode = long_cursor(r, longer, look.fronts or keys), r.choice([ABOVE, FROM])
+        else:
+            cursor = r.choice([b"", near(r, keys)[:8], r.choice(keys)[:r.randrange(9)], images.random_key(r, 8)[:8]])
+            mode = r.choice([ABOVE, ABOVE, ABOVE, FROM])
         longest = near(r, keys).ljust(256, r.choice([b"\0", b"a", b"\xff"]))
         bound = r.choice([near(r, keys), near(r, keys), images.random_key(r, 20), b"", longest])
-        yield Walk(target, look if target is image else None, r.choice([ABOVE, ABOVE, ABOVE, FROM]), cursor, r.randrange(3), bound)
+        target = (damage(r, image) if sort == "bytes" else strike(r, image, look) if sort == "fields"
+                  else waylay(r, image, look, cursor) if sort == "way" else image)
+        yield Walk(target, None if sort else look, mode, cursor, r.randrange(3), bound)
 
 
 def due(w):
@@ -139,6 +213,11 @@ def due(w):
     past = (lambda k: k >= w.cursor) if w.mode == FROM else (lambda k: k > w.cursor)
     inside = (lambda k: True, lambda k: k <= w.bound, lambda k: k < w.bound)[w.kind]
     return [k for k, live in w.look.keys if live and past(k) and inside(k)]
+
+
+def led(w):
+    """How many layers a cursor past eight bytes leads into over an accepted image, by the builder's own list."""
+    return sum(len(w.cursor) > len(front) and w.cursor.startswith(front) for front in w.look.fronts)
 
 
 def sorts(w, lines):
@@ -162,8 +241,9 @@ def sorts(w, lines):
 class Comparison:
     def __init__(self):
         self.differ = self.keys = self.images = 0
-        self.lengths = set()
+        self.lengths, self.cursors = set(), set()
         self.shapes, self.sorts, self.packed = collections.Counter(), collections.Counter(), collections.Counter()
+        self.modes, self.starts = collections.Counter(), collections.Counter()
         self.pack = []
 
     def differs(self, what, w):
@@ -184,21 +264,38 @@ class Comparison:
             self.packed.update(look.shapes)
             self.pack.append((image, look))
 
-    def walk(self, w, got, want):
+    def walk(self, w, got, want, start):
         keys = [line.split()[1] for line in want if line.startswith("key")]
         self.keys += len(keys)
         self.lengths.update(len(k.strip("-")) // 2 for k in keys)
+        self.cursors.add(len(w.cursor))
         self.sorts.update(sorts(w, want))
+        past = len(w.cursor) > SHORT
+        self.modes[past, w.mode] += 1
+        if past:
+            layers, stood = start
+            self.starts[w.mode, "no layer" if layers == 0 else "1" if layers == 1 else "2 to 30" if layers < 31 else "31"] += 1
+            self.starts[w.mode, "fault"] += not stood
         if got != want:
             a, b = next((a, b) for a, b in zip(want + [""], got + [""]) if a != b)
             self.differs(f"Rust {a}\n  port {b}", w)
         elif w.look and keys != [k.hex() or "-" for k in due(w)]:
             self.differs("keys other than the builder's", w)
+        elif w.look and past and start != (led(w), True):
+            self.differs(f"Start led into {start}, and not {led(w)}", w)
 
     def summary(self, seed, count):
         print(f"comparison with the Rust, seed {seed}: {count} walks, {self.keys} keys, {self.differ} differ")
         lengths = sorted(self.lengths) or [0]
+        cursors = sorted(self.cursors) or [0]
         print(f"  keys of {len(lengths)} different lengths, {lengths[0]} to {lengths[-1]} bytes")
+        print(f"  cursors of {len(cursors)} different lengths, {cursors[0]} to {cursors[-1]} bytes")
+        print(f"  cursors up to eight bytes: above {self.modes[False, ABOVE]} (the Rust's loop alone), "
+              f"from {self.modes[False, FROM]}")
+        for mode, name in ((ABOVE, "above"), (FROM, "from")):
+            into = ", ".join(f"{n}: {self.starts[mode, n]}" for n in ("no layer", "1", "2 to 30", "31"))
+            print(f"  cursors past eight bytes: {name} {self.modes[True, mode]}; Start led into {into}; met a fault in "
+                  f"{self.starts[mode, 'fault']}")
         walks = "walks: " + ", ".join(f"{name} {n}" for name, n in sorted(self.sorts.items()))
         print(textwrap.fill(walks, 120, initial_indent="  ", subsequent_indent="    "))
         print(f"  accepted images: {self.images}; of these with")
@@ -228,13 +325,16 @@ def compare(count, seed, pack):
             break
         batch = batch[:count - done]
         for w, got in zip(batch, port(STATES, batch), strict=True):
-            c.walk(w, got, oracle.walk(w))
+            c.walk(w, got, *oracle.walk(w))
         done += len(batch)
     if pack:
         with open(pack, "wb") as f:
             for image, look in c.pack:
                 offsets = [n.at for n in look.records]
-                f.write(struct.pack(f"<QQ{len(offsets)}Q", len(image), len(offsets), *offsets) + image)
+                keys = [k for k, _ in look.keys]
+                names = keys[::-(-len(keys) // NAMES) or 1] + look.fronts or [b""]
+                f.write(struct.pack(f"<QQQ{len(offsets)}Q", len(image), len(offsets), len(names), *offsets) + image)
+                f.write(b"".join(struct.pack("<Q", len(k)) + k for k in names))
     c.summary(seed, done)
     return c.differ > 0 or not all(c.shapes[shape] for shape in shapes.SHAPES)
 
@@ -260,7 +360,7 @@ def store(folder):
     want = {"plain": 150, "layers": 130, "fault": 90, "damaged": 30}
     requests, answers = [], []
     for w in common_walks(random.Random(20261115), 3000):
-        lines = oracle.walk(w)
+        lines, _ = oracle.walk(w)
         if w.look:
             sort = "layers" if any(" off 0 " not in line for line in lines if " off " in line) else "plain"
         else:

@@ -3,36 +3,82 @@
  *     guard PACK SEED ROUNDS          every slice lies against a page that may not be touched
  *     guard PACK SEED ROUNDS heap     every slice is a block of its own, of its exact size, for valgrind
  *
- * PACK has accepted images with the offsets of their records (differential.py --pack). Every call is made twice: once with all
- * slices ending where a forbidden page begins, once with all beginning where one ends (lend.h); calls.h says what is asked of an
- * answer. The seed fixes all random choices; a failure names its round.
+ * PACK has accepted images with the offsets of their records, some of their keys, and the bytes that lead into their layers
+ * (differential.py --pack). Every call is made twice: once with all slices ending where a forbidden page begins, once with all
+ * beginning where one ends (lend.h); calls.h says what is asked of an answer. The seed fixes all random choices; a failure names
+ * its round.
  */
 #define _DEFAULT_SOURCE
 #include <signal.h>
 
 #include "calls.h"
 
-/* Keys to ask for: some that a walk handed out, some beside them. */
+/* The accepted images. */
 
-static uint8_t seen[256];
-static size_t seen_len;
+struct name {
+    uint64_t len;
+    uint8_t bytes[256];
+};
 
-static size_t draw_key(uint8_t *at, size_t most)
+struct picture {
+    uint64_t len, records, names, *at;
+    uint8_t *bytes;
+    struct name *name;
+};
+
+static struct picture *pictures;
+static size_t picture_count;
+
+static void read_pack(const char *file)
 {
-    size_t front = below(2) ? seen_len : 0, more = ONE_OF(0, 0, 0, 1, 8, 9, 255, 256, 257);
-    size_t len = front + more <= most ? front + more : most;
-    fill(at, len);
-    memcpy(at, seen, front < len ? front : len);
+    FILE *f = fopen(file, "rb");
+    must(f != NULL, "no pack");
+    uint64_t head[3];
+    while (fread(head, sizeof head, 1, f) == 1) {
+        pictures = realloc(pictures, (picture_count + 1) * sizeof *pictures);
+        must(pictures != NULL, "no memory");
+        struct picture *p = &pictures[picture_count++];
+        *p = (struct picture){head[0], head[1], head[2], malloc(head[1] * sizeof *p->at), malloc(head[0]),
+                              calloc(head[2], sizeof *p->name)};
+        must(p->at && p->bytes && p->name, "no memory");
+        must(fread(p->at, sizeof *p->at, p->records, f) == p->records && fread(p->bytes, 1, p->len, f) == p->len, "a short pack");
+        for (struct name *n = p->name; n < p->name + p->names; n++) {
+            must(fread(&n->len, sizeof n->len, 1, f) == 1 && n->len <= sizeof n->bytes, "a short pack");
+            must(fread(n->bytes, 1, n->len, f) == n->len, "a short pack");
+        }
+    }
+    must(picture_count > 0, "an empty pack");
+    fclose(f);
+}
+
+/* Keys to ask for: the image's own, whole, cut, lengthened or with a byte changed, or any bytes. */
+static size_t draw_key(const struct picture *p, uint8_t *at, size_t most)
+{
+    const struct name *n = &p->name[below(p->names)];
+    uint64_t cut = below(n->len + 1), front = ONE_OF(n->len, n->len, n->len, cut, cut & ~7ull, 0), few = below(9);
+    size_t len = front + ONE_OF(0, 0, 0, few, 8, 9, 255, 256, 257);
+    len = most > 256 && below(2) ? most - few % 8 : len < most ? len : most;
+    front = front < len ? front : len;
+    memcpy(at, n->bytes, front);
+    if (below(3)) {
+        fill(at + front, len - front);
+    } else {
+        memset(at + front, (int)ONE_OF(0, 255), len - front);
+    }
+    if (front > 0 && below(4) == 0) {
+        at += below(front);
+        *at += (uint8_t)ONE_OF(1, 255, few);
+    }
     return len;
 }
 
 /* One that a placing takes, or, where faults are asked for, now and then one that it declines. */
-static void draw_ask(struct ask *a, int faults)
+static void draw_ask(const struct picture *p, struct ask *a, int faults)
 {
     int bad = faults ? (int)below(12) : 12;
-    a->cursor_len = draw_key(a->cursor, bad == 0 ? sizeof a->cursor : 8);
+    a->cursor_len = draw_key(p, a->cursor, bad == 0 ? sizeof a->cursor : below(3) ? 256 : 8);
     a->kind = (uint8_t)(bad == 1 ? ONE_OF(3, 4, 128, 255) : below(3));
-    a->key_len = draw_key(a->key, bad == 2 ? sizeof a->key : 256);
+    a->key_len = draw_key(p, a->key, bad == 2 ? sizeof a->key : 256);
 }
 
 static int key_order(const uint8_t *a, size_t a_len, const uint8_t *b, size_t b_len)
@@ -45,7 +91,7 @@ static int key_order(const uint8_t *a, size_t a_len, const uint8_t *b, size_t b_
  * moves are at most leaves + value slots + 4 * sub-layers + 2. How many keys. */
 static uint64_t walk_whole(int from, const struct ask *a, const uint64_t counts[4])
 {
-    struct walk w = {.numbers_len = PB_NUMBERS, .buf_len = PB_BUFFER, .bound_len = PB_BUFFER};
+    struct walk w = SIZED;
     uint64_t out[8] = {0}, keys = 0, moves = 0;
     uint8_t last[256];
     size_t last_len = a->cursor_len;
@@ -62,50 +108,86 @@ static uint64_t walk_whole(int from, const struct ask *a, const uint64_t counts[
         must(a->kind == 0 || end < 0 || (a->kind == 1 && end == 0), "a key past the bound");
         last_len = out[1];
         memcpy(last, w.buf, last_len);
-        if (below(++keys) == 0) {
-            seen_len = last_len;
-            memcpy(seen, last, last_len);
-        }
+        keys++;
     }
     must(moves <= counts[0] + counts[1] + 4 * counts[2] + 2, "more moves than 01 allows");
     must(step(&w, out, 4) == 0 && out[0] == 0 && out[3] == 0, "an ended walk");
     return keys;
 }
 
-static void whole(const uint64_t counts[4])
+/* Start in a layer that a walk is in: its root, its parents on the stack, and the cursor from there on. */
+static void put_start(struct walk *w, uint64_t depth, int from)
+{
+    uint64_t *n = w->numbers, whole = n[4] + n[5];
+    n[1] = depth < n[7] ? n[12 + 2 * depth] : n[1];
+    n[7] = depth;
+    n[4] = 8 * depth;
+    n[5] = whole - n[4];
+    n[6] = ikey_of(w->buf + n[4], n[5]);
+    n[10] = 0;
+    n[11] = (uint64_t)from;
+}
+
+/* Pages resumed, those after a key in a sub-layer, and the keys that were then compared. */
+static ull pages, pages_below, page_keys;
+
+/* A page resumed: after some key of a walk over an accepted image two others go on from there, same bound: one placed anew above
+ * the whole key, and the walk itself with Start put into a layer that it is in. Both hand out what the first still hands out; but
+ * the second hands out the key once more before that in mode from, and, by 01's rule, where the key has at most eight bytes. The
+ * bytes past the key's end do not matter to it, nor do those of the layer's own ikey, which the record has as a number. */
+static void resumed(const struct picture *p)
+{
+    struct walk first = SIZED, anew = SIZED, ahead = SIZED, again;
+    struct ask a;
+    uint64_t out[8] = {0}, others[8] = {1};
+    draw_ask(p, &a, 0);
+    must(place(&ahead, (int)below(2), &a) == 0, "a placing over an accepted image");
+    for (uint64_t n = 1 + below(20); n > 0 && others[0] == 1; n--) {
+        must(step(&ahead, others, 4) == 0, "a step over an accepted image was declined");
+        if (others[0] == 1) {
+            first = ahead;
+            memcpy(out, others, sizeof out);
+        }
+    }
+    if (out[0] == 0) {
+        return;
+    }
+    int from = (int)below(2);
+    again = first;
+    put_start(&again, below(first.numbers[7] + 1), from);
+    fill(again.buf + out[1], PB_BUFFER - out[1]);
+    if (below(2)) {
+        fill(again.buf + again.numbers[4], 8);
+    }
+    if (from || out[1] <= 8) {
+        must(step(&again, others, 4) == 0 && memcmp(others, out, 3 * sizeof *out) == 0, "a key is not there once more");
+        must(memcmp(again.buf, first.buf, out[1]) == 0, "another key once more");
+    }
+    a.cursor_len = out[1];
+    memcpy(a.cursor, first.buf, out[1]);
+    must(place(&anew, 0, &a) == 0, "a placing above a key");
+    pages++;
+    pages_below += first.numbers[7] > 0;
+    for (int n = 0; n < 20 && out[0] == 1; n++) {
+        must(step(&first, out, 4) == 0, "a step over an accepted image was declined");
+        struct walk *other[] = {&anew, &again};
+        for (int i = 0; i < 2; i++) {
+            must(step(other[i], others, 4) == 0, "a step of a walk resumed was declined");
+            must(memcmp(others, out, 3 * sizeof *out) == 0 && memcmp(other[i]->buf, first.buf, out[1]) == 0, "a walk resumed");
+        }
+        page_keys += out[0];
+    }
+}
+
+static void whole(const struct picture *p, const uint64_t counts[4])
 {
     struct ask a;
     uint64_t count[2] = {0, 0};
-    draw_ask(&a, 0);
+    draw_ask(p, &a, 0);
     must(tally(0, &a, count, 1) == 0 && count[0] == walk_whole(0, &a, counts), "the tally is not the number of keys");
     uint64_t keys = walk_whole(1, &a, counts);
     must(keys == count[0] || keys == count[0] + 1, "from a cursor and above it");
-}
-
-/* The accepted images. */
-struct picture {
-    uint64_t len, records, *at;
-    uint8_t *bytes;
-};
-
-static struct picture *pictures;
-static size_t picture_count;
-
-static void read_pack(const char *name)
-{
-    FILE *f = fopen(name, "rb");
-    must(f != NULL, "no pack");
-    uint64_t head[2];
-    while (fread(head, sizeof head, 1, f) == 1) {
-        pictures = realloc(pictures, (picture_count + 1) * sizeof *pictures);
-        must(pictures != NULL, "no memory");
-        struct picture *p = &pictures[picture_count++];
-        *p = (struct picture){head[0], head[1], malloc(head[1] * sizeof *p->at), malloc(head[0])};
-        must(p->at && p->bytes, "no memory");
-        must(fread(p->at, sizeof *p->at, p->records, f) == p->records && fread(p->bytes, 1, p->len, f) == p->len, "a short pack");
-    }
-    must(picture_count > 0, "an empty pack");
-    fclose(f);
+    resumed(p);
 }
 
 /* Damage. */
@@ -175,7 +257,7 @@ static void mend(size_t len)
 
 static void lengths(struct walk *w)
 {
-    w->numbers_len = below(16) ? PB_NUMBERS : ONE_OF(0, 1, 72, 74, 80);
+    w->numbers_len = below(16) ? PB_NUMBERS : ONE_OF(0, 1, 73, 75, 80);
     w->buf_len = below(16) ? PB_BUFFER : ONE_OF(0, 1, 255, 257, 264);
     w->bound_len = below(16) ? PB_BUFFER : ONE_OF(0, 1, 255, 257, 264);
 }
@@ -183,7 +265,7 @@ static void lengths(struct walk *w)
 /* A value for one number of a record. */
 static uint64_t draw_number(const uint64_t *n, size_t i, const struct picture *p)
 {
-    uint64_t wild = any(), small = below(32), offset = draw_offset(p), here = image_len;
+    uint64_t wild = any(), small = below(32), offset = draw_offset(p), here = image_len, left = n[4] < 256 ? 256 - n[4] : 0;
     if (below(40) == 0) {
         return wild;
     }
@@ -195,7 +277,7 @@ static uint64_t draw_number(const uint64_t *n, size_t i, const struct picture *p
     case 4:
         return 8 * n[7] + ONE_OF(0, 0, 0, 0, 0, 0, 1, ~0ull, 8);
     case 5:
-        return ONE_OF(small & 15, small & 15, 8, 9, 255 - n[4], 256 - n[4], 257 - n[4], 256);
+        return ONE_OF(small & 15, small & 15, 8, 9, wild % (left + 1), left - 1, left, left + 1, 256);
     case 6:
         return ONE_OF(wild, 0, ~0ull, word(image + (wild % (p->len - 8))));
     case 7:
@@ -206,8 +288,36 @@ static uint64_t draw_number(const uint64_t *n, size_t i, const struct picture *p
         return ONE_OF(small, small, 0, 255, 256, 257);
     case 10:
         return ONE_OF(0, 1, 2, 0, 1, 2, 2, 2, 3, 4);
+    case 11:
+        return ONE_OF(0, 1, 0, 1, 0, 1, 0, 1, 0, 1, 2, 255, 256, 1ull << 32, 1ull << 63, ~0ull);
     default:
         return offset;
+    }
+}
+
+/* Start, in a layer that the walk is in, or at any depth; there stands a key of the image or what was there. */
+static void alter_start(struct walk *w, const struct picture *p)
+{
+    uint64_t *n = w->numbers, depth = below(32), root = word(image + image_len - TRAILER), offset = draw_offset(p);
+    if (n[7] < 32 && n[4] == 8 * n[7] && n[5] <= 256 - n[4] && below(2)) {
+        put_start(w, below(n[7] + 1), (int)below(2));
+    } else {
+        n[7] = depth;
+        n[4] = 8 * depth;
+        n[5] = draw_number(n, 5, p);
+        n[1] = ONE_OF(root, root, n[1], offset);
+        if (below(4)) {
+            n[5] = draw_key(p, w->buf + n[4], 256 - n[4]);
+        }
+        n[6] = below(4) ? ikey_of(w->buf + n[4], 8) : draw_number(n, 6, p);
+        n[10] = 0;
+        n[11] = draw_number(n, 11, p);
+    }
+    if (below(4) == 0) {
+        n[5] = draw_number(n, 5, p);
+    }
+    if (below(8) == 0) {
+        fill(w->buf + below(256), 1);
     }
 }
 
@@ -215,7 +325,7 @@ static void alter(struct walk *w, const struct picture *p)
 {
     int all = below(2) == 0;
     for (size_t n = all ? PB_NUMBERS : 1 + below(4); n > 0; n--) {
-        size_t i = all ? PB_NUMBERS - n : below(2) ? below(11) : below(PB_NUMBERS);
+        size_t i = all ? PB_NUMBERS - n : below(2) ? below(12) : below(PB_NUMBERS);
         w->numbers[i] = draw_number(w->numbers, i, p);
         if (i == 7) {
             w->numbers[4] = draw_number(w->numbers, 4, p);
@@ -229,12 +339,15 @@ static void alter(struct walk *w, const struct picture *p)
     if (below(2)) {
         fill(w->buf, below(257));
     }
+    if (below(2)) {
+        alter_start(w, p);
+    }
 }
 
 /* Rounds. */
 
 /* Anything over the image that is shown: check, tally, a placing and some steps. */
-static void everything(void)
+static void everything(const struct picture *p)
 {
     struct ask a;
     struct walk w;
@@ -245,7 +358,7 @@ static void everything(void)
     fill(w.buf, sizeof w.buf);
     fill(w.bound, sizeof w.bound);
     lengths(&w);
-    draw_ask(&a, 1);
+    draw_ask(p, &a, 1);
     int checked = check(counts, below(8) ? 3 : below(5));
     tally(checked, &a, out, below(8) ? 1 : ONE_OF(0, 2));
     if (place(&w, (int)below(2), &a) == 0) {
@@ -253,17 +366,17 @@ static void everything(void)
         }
     }
     if (checked == 0 && check(counts, 3) == 0) {
-        whole(counts);
+        whole(p, counts);
     }
 }
 
 static void altered_walk(const struct picture *p)
 {
-    struct walk w = {.numbers_len = PB_NUMBERS, .buf_len = PB_BUFFER, .bound_len = PB_BUFFER};
+    struct walk w = SIZED;
     struct ask a;
     uint64_t out[8];
     fill(out, sizeof out);
-    draw_ask(&a, 0);
+    draw_ask(p, &a, 0);
     place(&w, (int)below(2), &a);
     for (uint64_t n = below(12); n > 0 && step(&w, out, 4) == 0; n--) {
     }
@@ -290,14 +403,14 @@ static int one_round(void)
     case WHOLE:
         show(len);
         must(check(counts, 3) == 0, "an accepted image is declined");
-        whole(counts);
+        whole(p, counts);
         break;
     case DAMAGED:
         for (uint64_t n = 1 + below(4); n > 0; n--) {
             damage(p);
         }
         show(len);
-        everything();
+        everything(p);
         break;
     case LENGTHS: {
         uint64_t few = below(1001), by = below(2) ? few : few & ~7ull;
@@ -309,7 +422,7 @@ static int one_round(void)
             mend(len);
         }
         show(len);
-        everything();
+        everything(p);
         break;
     }
     case BYTES:
@@ -323,7 +436,7 @@ static int one_round(void)
             put(image + word(image + len - TRAILER), ONE_OF(0, 1ull << 31), 4);
         }
         show(len);
-        everything();
+        everything(p);
         break;
     default:
         for (uint64_t n = below(2) ? below(4) : 0; n > 0; n--) {
@@ -344,7 +457,7 @@ static void limits(void)
     for (size_t i = 0; i < sizeof at / sizeof *at; i++) {
         mend(at[i]);
         show(at[i]);
-        everything();
+        everything(&pictures[0]);
         unchanged();
         memset(image + (at[i] < TRAILER ? 0 : at[i] - TRAILER), 0, TRAILER);
     }
@@ -393,11 +506,16 @@ int main(int argc, char **argv)
         }
         printf("\n");
     }
+    printf("  Start with more than eight bytes left: %llu steps, %llu of them below the root layer; %llu came to a deeper layer, "
+           "%llu to the deepest, %llu were declined\n",
+           starts.all, starts.below, starts.deeper, starts.deepest, starts.declined);
+    printf("  pages resumed: %llu, %llu of them in a sub-layer; %llu keys\n", pages, pages_below, page_keys);
     printf("  %llu calls, each made twice; no signal, nothing amiss\n", calls);
 
     for (size_t i = 0; i < picture_count; i++) {
         free(pictures[i].at);
         free(pictures[i].bytes);
+        free(pictures[i].name);
     }
     free(pictures);
     for (int i = 0; i < SLICES * SIDES && heap; i++) {

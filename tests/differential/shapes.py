@@ -85,10 +85,12 @@ def tree(r):
 
 
 class Look:
-    """What stands in a tree: its keys in order as (key, live), its shapes, its records, and the check's three numbers."""
+    """What stands in a tree: its keys in order as (key, live), its shapes, its records, for each sub-layer the bytes that lead
+    into it, its leaves as (bytes that lead there, leaf), and the check's three numbers."""
 
     def __init__(self, root):
         self.keys, self.shapes, self.records = [], set(), []
+        self.fronts, self.places = [], []
         self.leaves = self.values = self.layers = 0
         self.layer(root, b"", 0)
 
@@ -103,6 +105,7 @@ class Look:
 
     def leaf(self, leaf, front, height):
         self.leaves += 1
+        self.places.append((front, leaf))
         used = leaf.order[:len(leaf.slots)]
         self.mark("empty leaf", not used)
         self.mark("full leaf of 15", len(used) == 15)
@@ -112,6 +115,7 @@ class Look:
             self.shapes.add(f"keylenx {s.keylenx}")
             if s.sub is not None:
                 self.layers += 1
+                self.fronts.append(front + s.part)
                 self.layer(s.sub, front + s.part, 0)
             else:
                 self.values += 1
