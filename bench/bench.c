@@ -5,13 +5,7 @@
  * BEST is the shortest of its runs. Every run must count as many keys as the trailer states, or the program stops: an image for it has
  * no dead slot and no empty key. The sum is 0 but for pb_step, which alone sees the keys: value, key length and last byte of every
  * key, over all repeats, with wrap, as the Rust's bench has its checksum. */
-#define _POSIX_C_SOURCE 199309L /* clock_gettime */
-#include <stdio.h>
-#include <stdlib.h>
-#include <string.h>
-#include <time.h>
-
-#include "punchbronze.h"
+#include "common.h"
 
 /* crates/timing: the keys of a walk over the whole image, by the step by value (0) or lent (1), and by the tally's loop. */
 uint64_t timed_walk(const uint8_t *image, size_t image_len, uint8_t form);
@@ -19,18 +13,6 @@ uint64_t timed_count(const uint8_t *image, size_t image_len);
 
 static uint64_t sum;
 static volatile uint64_t kept;
-
-static uint64_t word(const uint8_t *at)
-{
-    uint64_t w;
-    memcpy(&w, at, 8);
-    return w;
-}
-
-static uint64_t stated(const uint8_t *image, size_t len)
-{
-    return word(image + len - 24);
-}
 
 static uint64_t tally(const uint8_t *image, size_t len)
 {
@@ -94,26 +76,6 @@ __attribute__((noinline)) uint64_t one_run(const struct form *form, const uint8_
 uint64_t one_run(const struct form *form, const uint8_t *image, size_t len)
 {
     return form->run(image, len);
-}
-
-static double now(void)
-{
-    struct timespec t;
-    clock_gettime(CLOCK_MONOTONIC, &t);
-    return (double)t.tv_sec * 1e9 + (double)t.tv_nsec;
-}
-
-/* The file's bytes, at the start of a page. */
-static uint8_t *read_image(const char *name, size_t *len)
-{
-    FILE *f = fopen(name, "rb");
-    if (!f) {
-        return NULL;
-    }
-    uint8_t *bytes = aligned_alloc(4096, (size_t)1 << 24);
-    *len = bytes ? fread(bytes, 1, (size_t)1 << 24, f) : 0;
-    fclose(f);
-    return bytes;
 }
 
 int main(int argc, char **argv)
