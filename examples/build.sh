@@ -1,16 +1,27 @@
 #!/bin/sh
-# Builds the static library and the two examples, in C and in Rust, and runs both on samples/a.img: they must write the same. Needs
-# rt, cc and cargo; no network. What is built goes into target/.
+# Builds the static library and the examples, in C and in Rust, and runs them on all samples: both must write the same, and pages of twenty
+# keys, each a walk of its own above the last key of the page before, must have the list's keys. Needs rt, cc and cargo; no network. What
+# is built goes into target/.
 set -eu
 cd "$(dirname "$0")/.."
 rt staticlib punchbronze
-mkdir -p target/examples
-cc -std=c11 -Wall -Wextra -O2 -Iinclude -o target/examples/list examples/c/list.c target/staticlib/libpunchbronze.a
-CARGO_TARGET_DIR=target/rust cargo build --offline --quiet --manifest-path rust/Cargo.toml --example list
-for image in samples/*.img; do
-    target/examples/list "$image" >target/examples/c.txt || true
-    target/rust/debug/examples/list "$image" >target/examples/rust.txt || true
-    cmp target/examples/c.txt target/examples/rust.txt
+out=target/examples
+mkdir -p $out
+for example in list page; do
+    cc -std=c11 -Wall -Wextra -O2 -Iinclude -o $out/$example examples/c/$example.c target/staticlib/libpunchbronze.a
+    CARGO_TARGET_DIR=target/rust cargo build --offline --quiet --manifest-path rust/Cargo.toml --example $example
 done
-target/examples/list samples/a.img
+for image in samples/*.img; do
+    for example in list page; do
+        $out/$example "$image" >$out/$example.txt || true
+        target/rust/debug/examples/$example "$image" >$out/rust.txt || true
+        cmp $out/$example.txt $out/rust.txt
+    done
+    if ! grep -q '^refused' $out/list.txt; then
+        grep '^=' $out/list.txt >$out/list.keys || true
+        grep '^=' $out/page.txt >$out/page.keys || true
+        cmp $out/list.keys $out/page.keys
+    fi
+done
+$out/list samples/a.img
 echo "examples: ok"

@@ -1,32 +1,5 @@
 /* Lists the keys of an image: list FILE. Each line is the key's bytes in hex, and its value; the last line is the moves. */
-#include <stdio.h>
-#include <stdlib.h>
-
-#include "punchbronze.h"
-
-static uint8_t *read_file(const char *name, size_t *len)
-{
-    FILE *f = fopen(name, "rb");
-    if (!f) {
-        return NULL;
-    }
-    size_t room = 4096, n = 0, got;
-    uint8_t *bytes = malloc(room);
-    while (bytes && (got = fread(bytes + n, 1, room - n, f)) > 0) {
-        n += got;
-        if (n == room) {
-            room *= 2;
-            uint8_t *more = realloc(bytes, room);
-            if (!more) {
-                free(bytes);
-            }
-            bytes = more;
-        }
-    }
-    fclose(f);
-    *len = n;
-    return bytes;
-}
+#include "file.h"
 
 int main(int argc, char **argv)
 {
@@ -61,11 +34,7 @@ int main(int argc, char **argv)
         if (out[0] == 0) {
             break;
         }
-        putchar('=');
-        for (uint64_t i = 0; i < out[1]; i++) {
-            printf("%02x", walk.buf[i]);
-        }
-        printf(" %llu\n", (unsigned long long)out[2]);
+        print_key(walk.buf, out[1], out[2]);
     }
     if (code != 0) {
         printf("declined %d\n", code);
