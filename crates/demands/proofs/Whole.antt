@@ -43,7 +43,7 @@ use Rattle.demands.proofs.Steps.{admitted, Walks, going, all-steps, key
 
 -- THE PLACING. It was taken: cursor, kind and bound are in their limits, and the walk is fresh.
 pub record Limits (cursor : List ℕ) (kind : ℕ) (bound : List ℕ) : Type 0 where
-  pub short : length cursor ≤ 256
+  pub cursor-fits : length cursor ≤ 256
   pub kinds : kind ≤ 2
   pub fits : length bound ≤ 256
 
@@ -61,7 +61,7 @@ module _ (image : List ℕ) (mode : StartMode) (cursor : List ℕ) (kind : ℕ) 
       (λ v.
       pick-ind P (ltb 256 (length bound)) (λ w e. absurd (omega arith))
       (λ w e. record {
-        short = ltb-false 256 (length cursor) u;
+        cursor-fits = ltb-false 256 (length cursor) u;
         kinds = ltb-false 2 kind v;
         fits = ltb-false 256 (length bound) w;
       }))))
@@ -145,7 +145,7 @@ module _ (image : List ℕ) (b : (i : ℕ) → getD image i 0 < 256) (o : Obeys 
         (take (boundOf kind bound .len) (boundOf kind bound .key)) (scanOf (freshWalk image mode cursor kind bound))
     begun =
         begin-at image b o cursor (bytes-of cursor bc) (boundOf kind bound .kind)
-        (take (boundOf kind bound .len) (boundOf kind bound .key)) mode kind bound (lim .short)
+        (take (boundOf kind bound .len) (boundOf kind bound .key)) mode kind bound (lim .cursor-fits)
 
     -- where it stands
     stage : Conf
@@ -157,7 +157,7 @@ module _ (image : List ℕ) (b : (i : ℕ) → getD image i 0 < 256) (o : Obeys 
     walks = record {
       same-length = refl;
       same-bound = refl;
-      fit = record { deep = omega arith; offset = refl; fits = omega (arith, lim .short); place = omega arith };
+      fit = record { deep = omega arith; offset = refl; fits = omega (arith, lim .cursor-fits); place = omega arith };
       stage = going (not-ended mode (length cursor)) (begun .rep);
     }
 
