@@ -13,8 +13,8 @@ pub enum ScanState {
 }
 
 // What goes from move to move by value: the Rust's ForwardScanCtx without its buffer and its layer stack, which the loop
-// holds. `depth` is how many of the stack's entries are in use; `dup` is the Rust's needs_duplicate_check, `last` its
-// last_ikey.
+// holds. `depth` is how many of the stack's entries are in use; `last` is the Rust's last_ikey, `dup` its
+// needs_duplicate_check. State and flag stand apart: side by side they are copied as one word and taken apart in every move.
 pub struct ScanCtx {
     pub root: u64,
     pub leaf: u64,
@@ -22,8 +22,8 @@ pub struct ScanCtx {
     pub cursor: CursorPlace,
     pub depth: usize,
     pub state: ScanState,
-    pub dup: bool,
     pub last: u64,
+    pub dup: bool,
 }
 
 // What a move comes to: the loop goes on; a layer is entered, whose root is given; a key is out, with its value; the walk
