@@ -2,9 +2,14 @@
 // kind, a byte each; the cursor's length in two bytes and the cursor; the bound key's likewise and the key; the image's length in four
 // and the image, at most 65,536 bytes. What a program reads behind it, it reads by `field`.
 //
-// Interface: `read_request` and `field` read; `put`, `item`, `line`, `put_hex` and `put_pair` print; `first` cuts a buffer. None has a
-// `requires`.
+// Interface: `read_request` and `field` read, and specs/Requests.antt has what holds of what they hand back, the input itself being free;
+// `first` cuts a buffer; `put`, `item`, `line`, `put_hex` and `put_pair` print and hand nothing back. None has a `requires`.
 use node::le;
+ghost use mathlib.Core.Path.{_≡_};
+ghost use mathlib.Core.Bool.{true};
+ghost use Prim.Native.Nat.{_≤_};
+ghost use lib.ListN.{length, take};
+ghost use Rattle.requests.specs.Requests.{Within, Fits};
 
 // The longest line of a key: 256 bytes, a space, twenty digits and a newline.
 const LINE: usize = 534;
@@ -49,7 +54,9 @@ pub fn line(name: &[u8], word: &[u8], n: usize) {
 }
 
 // The first n bytes of a buffer.
-pub fn first<'a>(s: &'a [u8], n: usize) -> &'a [u8] {
+pub fn first<'a>(s: &'a [u8], n: usize) -> &'a [u8]
+    ensures { λ r. ⌜ now r ≡ take n (now (s .entry)) ⌝ }
+{
     if s.len() < n {
         return s;
     }
@@ -73,7 +80,9 @@ pub fn put_hex(bytes: &[u8]) {
 }
 
 // The next n bytes of the input, at the start of buf; false where there are not so many.
-fn next(buf: &mut [u8], n: usize) -> bool {
+fn next(buf: &mut [u8], n: usize) -> bool
+    ensures { λ r. ⌜ (r ≡ true → n ≤ length (now (buf .entry))) ⌝ }
+{
     if buf.len() < n {
         return false;
     }
@@ -90,7 +99,9 @@ fn number(width: usize) -> Read {
 }
 
 // A length of so many bytes, and as many bytes as it says, at the start of buf; the length.
-pub fn field(buf: &mut [u8], width: usize) -> Read {
+pub fn field(buf: &mut [u8], width: usize) -> Read
+    ensures { λ r. ⌜ Within r (length (now (buf .entry))) ⌝ }
+{
     let Read::Number(n) = number(width) else {
         return Read::End;
     };
@@ -101,7 +112,9 @@ pub fn field(buf: &mut [u8], width: usize) -> Read {
 }
 
 // No request.
-fn none() -> Request {
+fn none() -> Request
+    ensures { λ r. ⌜ Fits r 0 ⌝ }
+{
     let name = [0u8; 256];
     let key = [0u8; 512];
     Request {
@@ -120,7 +133,9 @@ fn none() -> Request {
 }
 
 // The next request of the input, its image at the start of `image`.
-pub fn read_request(image: &mut [u8]) -> Request {
+pub fn read_request(image: &mut [u8]) -> Request
+    ensures { λ r. ⌜ Fits r (length (now (image .entry))) ⌝ }
+{
     let mut name = [0u8; 256];
     let mut how = [0u8; 3];
     let mut cursor = [0u8; 512];

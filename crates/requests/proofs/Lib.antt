@@ -1,0 +1,2 @@
+-- The lemma file of this crate.
+pub mod Laws
