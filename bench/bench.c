@@ -7,7 +7,7 @@
  * key, over all repeats, with wrap, as the Rust's bench has its checksum. */
 #include "common.h"
 
-/* crates/timing: the keys of a walk over the whole image, by the step by value (0) or lent (1), and by the tally's loop. */
+/* crates/bench_loops: the keys of a walk over the whole image, by the step by value (0) or lent (1), and by the tally's loop. */
 uint64_t timed_walk(const uint8_t *image, size_t image_len, uint8_t form);
 uint64_t timed_count(const uint8_t *image, size_t image_len);
 

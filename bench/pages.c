@@ -71,7 +71,7 @@ static void read_row(void)
         }
         row[i].len = out[1];
         row[i].value = out[2];
-        row[i].layers = w.numbers[7];
+        row[i].layers = w.numbers[PB_DEPTH];
         row[i].sum = row[i - 1].sum + summed(&w, out);
         memcpy(row[i].bytes, w.buf, out[1]);
     }

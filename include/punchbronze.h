@@ -22,7 +22,6 @@
 extern "C" {
 #endif
 
-#define PB_NUMBERS 74
 #define PB_BUFFER 256
 
 /* The kinds of a bound. */
@@ -30,11 +29,28 @@ extern "C" {
 #define PB_INCLUDED 1
 #define PB_EXCLUDED 2
 
+/* Where each number of a walk stands. The stack's are the last: for each i below 31, numbers[PB_STACK + 2 * i] is the root of entry i,
+ * and the next one its leaf. */
+enum {
+    PB_IMAGE_LEN = 0,
+    PB_ROOT = 1,
+    PB_LEAF = 2,
+    PB_POSITION = 3,
+    PB_OFFSET = 4,    /* of the cursor: where its layer's bytes begin in buf */
+    PB_LEN = 5,       /* of the cursor: its bytes from there on */
+    PB_IKEY = 6,
+    PB_DEPTH = 7,
+    PB_KIND = 8,
+    PB_BOUND_LEN = 9,
+    PB_STATE = 10,    /* 0 start, 1 retry, 2 find next, 3 ended */
+    PB_MODE = 11,     /* 0 above, 1 from */
+    PB_STACK = 12,
+    PB_NUMBERS = 74
+};
+
 /* A walk between calls: a record that the caller keeps. Fill it by a placing, and hand it to steps.
  *
- * numbers: [0] image length, [1] root, [2] leaf, [3] position, [4] cursor offset, [5] cursor length, [6] ikey, [7] depth, [8] bound
- * kind, [9] bound length, [10] state (0 start, 1 retry, 2 find next, 3 ended), [11] start mode (0 above, 1 from), and then for each
- * i below 31 [12 + 2 * i] root and [13 + 2 * i] leaf of stack entry i.
+ * numbers: as above.
  * buf: the cursor's bytes; after a step that hands out a key, its first bytes are the key.
  * bound: the bound's key. */
 typedef struct pb_walk {
@@ -65,8 +81,8 @@ uint8_t pb_place_from(const uint8_t *image, size_t image_len, const uint8_t *cur
 
 /* One key further. Returns 0, and then out is { 1 for a key or 0 for none, key length, value, moves }, and numbers and buf are those
  * of the walk after the step; the bound is not changed by a step. Else numbers, buf and out stay as they were, and the number is
- *   21  the record is no walk's (lengths other than 74, 256 and 256, numbers[8] over 255, numbers[10] over 3, numbers[11] over 1), or
- *       it is out of range (image length not image_len, depth over 31, offset not 8 * depth, offset plus length over 256, position
+ *   21  the record is no walk's (lengths other than 74, 256 and 256, numbers[PB_KIND] over 255, numbers[PB_STATE] over 3,
+ *       numbers[PB_MODE] over 1), or it is out of range (image length not image_len, depth over 31, offset not 8 * depth, offset plus length over 256, position
  *       over 15, kind over 2, bound length over 256), or the length of out is not 4;
  *   22  the image cannot be read on;
  *   23  more moves than the image has bytes.

@@ -1,18 +1,19 @@
 #!/usr/bin/env python3
-"""Writes the requests that crates/examples runs, from document 01's surveyed examples, and those of crates/records, from 02's.
+"""Writes the requests that crates/walk_table runs, from document 01's surveyed examples, and those of crates/records, from 02's.
 
-    tools/examples.py > crates/examples/stdin
+    tools/examples.py > crates/walk_table/stdin
     tools/examples.py records > crates/records/stdin
 
 A request is a name, a form, the arguments of a placing and an image; for crates/records also what is altered of the walk's record.
-The answers are written by hand in crates/examples/stdout and crates/records/stdout: keys, values and numbers from 01's and 02's
+The answers are written by hand in crates/walk_table/stdout and crates/records/stdout: keys, values and numbers from 01's and 02's
 words, the samples' keys counted in tools/images.py; moves where 01 gives them, and for 02 one Start for each layer, then as 01
 counts. Nothing here works them out.
 """
 import sys
 
-from images import ABOVE, EDITION, EXCLUDED, FOREIGN, FROM, IDENTITY, INCLUDED, LENGTH, MOVES, ROOT, SAMPLES, SHORT, TOTAL
-from images import Leaf, Slot, build, changed, in_leaf, layers, request, suffixed, trailer, tree_a, tree_b, two_leaves
+from images import EDITION, IDENTITY, LENGTH, ROOT, SAMPLES, changed, in_leaf, layers, suffixed, trailer, tree_a, tree_b, two_leaves
+from layout import Leaf, Slot, build, ikey
+from requests import ABOVE, EXCLUDED, FOREIGN, FROM, INCLUDED, MOVES, SHORT, TOTAL, request
 
 
 def surveyed():
@@ -81,14 +82,6 @@ def resume(name, tree, mode, cursor, changes=None, **more):
     request(name, image, mode, cursor, changes=changes or {}, **more)
 
 
-def deep():
-    """31 layers at eight bytes "c", and below them x and y."""
-    node = Leaf(Slot(b"x", 1), Slot(b"y", 2))
-    for _ in range(31):
-        node = Leaf(Slot(b"c" * 8, sub=node))
-    return node
-
-
 def whole_names():
     """02 [1] over accepted images: cursors past eight bytes, and up to eight bytes nothing new."""
     b = tree_b()
@@ -101,8 +94,9 @@ def whole_names():
     resume("resume-inline-below", tree_a(), ABOVE, b"ab" + bytes(7))
     resume("eight-bytes", b, FROM, b"entrance")
     resume("nine-bytes", b, FROM, b"entrance\0")
-    resume("deep-above", deep(), ABOVE, b"c" * 248 + b"x")
-    resume("deep-from-empty", deep(), FROM, b"")
+    deep = layers(31, Leaf(Slot(b"x", 1), Slot(b"y", 2)), b"c")
+    resume("deep-above", deep, ABOVE, b"c" * 248 + b"x")
+    resume("deep-from-empty", deep, FROM, b"")
     resume("above-equal-behind-shorter", Leaf(Slot(b"a", 1), Slot(b"a\0", 2), Slot(b"b", 3)), ABOVE, b"a\0")
     # a layer behind inline slots of its ikey is entered
     zeros = b"ab" + bytes(6)
@@ -162,8 +156,8 @@ def whole_names_altered():
     down = {LAYER_ROOT: inner.at, OFFSET: 8, LEN: 0, IKEY: 0, DEPTH: 1, STATE: START, STACK: tree.at, STACK + 1: tree.at}
     resume("start-above-whole-8", image, ABOVE, b"entrance", down)
     resume("start-above-whole-9", build(b), ABOVE, b"entrance",
-           {LAYER_ROOT: 8, OFFSET: 8, LEN: 2, IKEY: int.from_bytes(b".1".ljust(8, b"\0"), "big"), DEPTH: 1, STATE: START,
-            STACK: 408, STACK + 1: 408, BUFFER + 8: ord("."), BUFFER + 9: ord("1")})
+           {LAYER_ROOT: 8, OFFSET: 8, LEN: 2, IKEY: ikey(b".1"), DEPTH: 1, STATE: START, STACK: 408, STACK + 1: 408,
+            BUFFER + 8: ord("."), BUFFER + 9: ord("1")})
     # only Start reads the start mode
     resume("retry-of-from", a, FROM, b"a", {STATE: RETRY})
     resume("length-set-to-9", b, FROM, b"entrance", {LEN: 9})

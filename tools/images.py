@@ -4,120 +4,14 @@
     tools/images.py table  > crates/check_table/stdin     requests to check named images, each in order or with one fault
     tools/images.py sample NAME > samples/NAME.img        one image by name (sample list: the names)
 
-An image is made of Leaf and Internode records in post-order. `build` lays them out; a fault is one change to the bytes it
-gives. Nothing here checks an image: the answers that the table must give are written by hand in crates/check_table/stdout.
+A fault is one change to the bytes that `build` gives. Nothing here checks an image: the answers that the table must give are written
+by hand in crates/check_table/stdout.
 """
 import struct
 import sys
 
-TOP = 1 << 64
-IDENTITY = 0xEDCBA98765432100
-
-# A request's form, start mode and kind of bound, as crates/runner reads them. Forms: every answer; all moves too; before each step one
-# over a shorter image; the check first, and only the number of keys; the check alone; every step with the walk after it (for
-# tests/differential).
-KEYS, MOVES, FOREIGN, TOTAL, CHECK, STATES = range(6)
-ABOVE, FROM, SHORT = range(3)
-UNBOUNDED, INCLUDED, EXCLUDED = range(3)
-
-
-def ikey(part):
-    return int.from_bytes(part[:8].ljust(8, b"\0"), "big")
-
-
-class Slot:
-    """One used slot: `part` has the key's bytes in this layer."""
-
-    def __init__(self, part, value=0, suffix=b"", sub=None, keylenx=None, live=True):
-        self.ikey = ikey(part)
-        self.value, self.suffix, self.sub, self.live = value, suffix, sub, live
-        if keylenx is not None:
-            self.keylenx = keylenx
-        elif sub is not None:
-            self.keylenx = 128
-        else:
-            self.keylenx = 64 if suffix else len(part)
-
-
-class Leaf:
-    def __init__(self, *slots, version=1 << 31, order=None):
-        self.slots, self.version = slots, version
-        self.order = order or list(range(15))
-
-
-class Internode:
-    def __init__(self, separators, *children, version=0):
-        self.separators, self.children, self.version = separators, children, version
-
-
-def leaves(node):
-    if isinstance(node, Leaf):
-        return [node]
-    return [leaf for child in node.children for leaf in leaves(child)]
-
-
-def build(root):
-    """The image of a tree; every record gets its offset in `at`, every suffix its offset in `suffix_at`."""
-    out = bytearray(8)
-    count = 0
-
-    def record(node):
-        nonlocal count
-        if isinstance(node, Internode):
-            for child in node.children:
-                record(child)
-            b = bytearray(256)
-            struct.pack_into("<IB", b, 0, node.version, len(node.separators))
-            for i, separator in enumerate(node.separators):
-                struct.pack_into("<Q", b, 8 + 8 * i, separator)
-            for i, child in enumerate(node.children):
-                struct.pack_into("<Q", b, 128 + 8 * i, child.at)
-        else:
-            for slot in node.slots:
-                if slot.sub is not None:
-                    layer(slot.sub)
-                    slot.value = slot.sub.at
-                elif slot.keylenx == 64:
-                    slot.suffix_at = len(out)
-                    out.extend(slot.suffix + bytes(-len(slot.suffix) % 8))
-            b = bytearray(400)
-            permutation = len(node.slots)
-            for i, s in enumerate(node.order):
-                permutation |= s << (4 * i + 4)
-            mask = 0
-            for i, slot in enumerate(node.slots):
-                s = node.order[i]
-                mask |= (1 if slot.live and slot.sub is None else 0) << s
-                struct.pack_into("<Q", b, 16 + 8 * s, slot.ikey)
-                b[136 + s] = slot.keylenx
-                struct.pack_into("<Q", b, 152 + 8 * s, slot.value)
-                if slot.keylenx == 64:
-                    struct.pack_into("<II", b, 272 + 8 * s, slot.suffix_at, len(slot.suffix))
-                count += slot.sub is None
-            struct.pack_into("<IHHQ", b, 0, node.version, mask, 0, permutation)
-        node.at = len(out)
-        out.extend(b)
-
-    def layer(top):
-        record(top)
-        row = leaves(top)
-        for this, behind in zip(row, row[1:] + [None]):
-            struct.pack_into("<Q", out, this.at + 392, behind.at if behind else 0)
-
-    layer(root)
-    out += struct.pack("<QQQQ", root.at, count, len(out) + 32, 1)
-    return bytes(out)
-
-
-def request(name, image, mode=ABOVE, cursor=b"", kind=UNBOUNDED, bound=b"", form=KEYS, changes=None):
-    """Writes a request. `changes` (for crates/records alone) gives numbers of the record by their index, and bytes of its buffer by
-    256 plus theirs."""
-    sys.stdout.buffer.write(
-        bytes([len(name)]) + name.encode() + bytes([form, mode, kind]) + struct.pack("<H", len(cursor)) + cursor
-        + struct.pack("<H", len(bound)) + bound + struct.pack("<I", len(image)) + image)
-    if changes is not None:
-        changes = b"".join(struct.pack("<HQ", at, value) for at, value in changes.items())
-        sys.stdout.buffer.write(struct.pack("<H", len(changes)) + changes)
+from layout import TOP, Internode, Leaf, Slot, build, ikey, tree_of
+from requests import CHECK, request
 
 
 # ---- trees in order
@@ -141,11 +35,11 @@ def nested():
     return Internode([ikey(b"m")], low, high)
 
 
-def layers(n, bottom=None):
-    """n layers below the root, each entered at eight bytes "x", with one key at the bottom."""
+def layers(n, bottom=None, byte=b"x"):
+    """n layers below the root, each entered at eight times a byte, with one key at the bottom."""
     node = bottom or Leaf(Slot(b"k", 1))
     for _ in range(n):
-        node = Leaf(Slot(b"x" * 8, sub=node))
+        node = Leaf(Slot(byte * 8, sub=node))
     return node
 
 
@@ -174,37 +68,6 @@ def cave():
     return tree_of({name: 100 + i for i, name in enumerate(sorted(names))})
 
 
-def tree_of(pairs, dead=()):
-    """A tree of (key, value) pairs: whole ikey groups fill a leaf; one long key of an ikey is a suffix, more are a layer."""
-    groups = {}
-    for key, value in sorted(pairs.items()):
-        groups.setdefault(ikey(key), []).append((key, value))
-    slots = []
-    for x, members in sorted(groups.items()):
-        row = [Slot(key, value, live=key not in dead) for key, value in members if len(key) <= 8]
-        longer = [(key, value) for key, value in members if len(key) > 8]
-        part = x.to_bytes(8, "big")
-        if len(longer) == 1:
-            key, value = longer[0]
-            row.append(Slot(part, value, suffix=key[8:], live=key not in dead))
-        elif longer:
-            row.append(Slot(part, sub=tree_of({key[8:]: value for key, value in longer}, {key[8:] for key in dead if key[:8] == part})))
-        slots.append(row)
-    rows = [[]]
-    for group in slots:
-        if len(rows[-1]) + len(group) > 15:
-            rows.append([])
-        rows[-1] += group
-    nodes = [(Leaf(*row), row[0].ikey if row else 0) for row in rows]
-    while len(nodes) > 1:
-        upper = []
-        for i in range(0, len(nodes), 16):
-            part = nodes[i:i + 16]
-            upper.append((Internode([low for _, low in part[1:]], *[node for node, _ in part]), part[0][1]))
-        nodes = upper
-    return nodes[0][0]
-
-
 # ---- one change to an image's bytes
 
 def put(image, form, at, *values):
@@ -224,6 +87,7 @@ def changed(tree, form, where, value):
 
 
 ROOT, COUNT, LENGTH, EDITION = range(4)
+IDENTITY = 0xEDCBA98765432100
 
 
 def in_leaf(offset):

@@ -167,10 +167,13 @@ pub struct Step {
     pub moves: u64,
 }
 
+/// The numbers of a walk's record; `include/punchbronze.h` says where each stands.
+const NUMBERS: usize = 74;
+
 /// A walk between calls, as the record in which it crosses to the library.
 #[derive(Clone)]
 pub struct Walk {
-    numbers: [u64; 74],
+    numbers: [u64; NUMBERS],
     buf: [u8; 256],
     bound: [u8; 256],
 }
@@ -189,7 +192,7 @@ impl Walk {
 
     fn place(from: bool, image: &[u8], cursor: &[u8], bound: Bound<'_>) -> Result<Walk, Declined> {
         let (kind, key) = bound.parts();
-        let mut walk = Walk { numbers: [0; 74], buf: [0; 256], bound: [0; 256] };
+        let mut walk = Walk { numbers: [0; NUMBERS], buf: [0; 256], bound: [0; 256] };
         let call = if from { pb_place_from } else { pb_place_above };
         // SAFETY: as in `check`; the three lent arrays are fields of one struct and do not overlap.
         taken(unsafe {

@@ -104,18 +104,18 @@ static void placed(struct walk *w, int code, int from, const struct ask *a)
         return;
     }
     blank(w);
-    w->numbers[10] = 3;
+    w->numbers[PB_STATE] = 3;
     if (code != 0) {
         return;
     }
-    w->numbers[0] = image_len;
-    w->numbers[1] = word(image + image_len - TRAILER);
-    w->numbers[5] = a->cursor_len;
-    w->numbers[6] = ikey_of(a->cursor, a->cursor_len);
-    w->numbers[8] = a->kind;
-    w->numbers[9] = a->kind ? a->key_len : 0;
-    w->numbers[10] = from || a->cursor_len > 8 ? 0 : 1;
-    w->numbers[11] = from;
+    w->numbers[PB_IMAGE_LEN] = image_len;
+    w->numbers[PB_ROOT] = word(image + image_len - TRAILER);
+    w->numbers[PB_LEN] = a->cursor_len;
+    w->numbers[PB_IKEY] = ikey_of(a->cursor, a->cursor_len);
+    w->numbers[PB_KIND] = a->kind;
+    w->numbers[PB_BOUND_LEN] = a->kind ? a->key_len : 0;
+    w->numbers[PB_STATE] = from || a->cursor_len > 8 ? 0 : 1;
+    w->numbers[PB_MODE] = from;
     memcpy(w->buf, a->cursor, a->cursor_len);
     memcpy(w->bound, a->key, a->kind ? a->key_len : 0);
 }
@@ -150,8 +150,8 @@ static int is_foreign(const struct walk *w, size_t out_len)
     if (out_len != 4 || !is_sized(w)) {
         return 1;
     }
-    return n[10] > 3 || n[11] > 1 || n[0] != image_len || n[7] > 31 || n[4] != 8 * n[7] || n[5] > 256 - n[4] || n[3] > 15
-           || n[8] > 2 || n[9] > 256;
+    return n[PB_STATE] > 3 || n[PB_MODE] > 1 || n[PB_IMAGE_LEN] != image_len || n[PB_DEPTH] > 31 || n[PB_OFFSET] != 8 * n[PB_DEPTH]
+           || n[PB_LEN] > 256 - n[PB_OFFSET] || n[PB_POSITION] > 15 || n[PB_KIND] > 2 || n[PB_BOUND_LEN] > 256;
 }
 
 static int step(struct walk *w, uint64_t out[8], size_t out_len)
@@ -184,9 +184,9 @@ static int step(struct walk *w, uint64_t out[8], size_t out_len)
     } else {
         const uint64_t *s = said[0];
         must(s[0] <= 1 && s[1] <= 256 && s[3] <= image_len, "what a step said");
-        must(s[0] == 1 || (s[1] == 0 && s[2] == 0 && after[0].numbers[10] == 3), "none, and the walk is not ended");
-        must(s[0] == 0 || after[0].numbers[10] == 2, "a key, and the walk is not to find the next");
-        must(w->numbers[10] != 3 || (s[0] == 0 && s[3] == 0 && memcmp(&after[0], w, sizeof *w) == 0), "an ended walk moved");
+        must(s[0] == 1 || (s[1] == 0 && s[2] == 0 && after[0].numbers[PB_STATE] == 3), "none, and the walk is not ended");
+        must(s[0] == 0 || after[0].numbers[PB_STATE] == 2, "a key, and the walk is not to find the next");
+        must(w->numbers[PB_STATE] != 3 || (s[0] == 0 && s[3] == 0 && memcmp(&after[0], w, sizeof *w) == 0), "an ended walk moved");
     }
     count_start(w->numbers, after[0].numbers, code[0]);
     *w = after[0];

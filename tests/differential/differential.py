@@ -21,14 +21,15 @@ import sys
 import tempfile
 import textwrap
 
-import shapes
-from shapes import Leaf, images
-
 TOP = os.path.dirname(os.path.dirname(os.path.dirname(os.path.abspath(__file__))))
+sys.path.insert(0, os.path.join(TOP, "tools"))
+import layout
+import shapes
+import trees
+from requests import ABOVE, CHECK, FROM, STATES, UNBOUNDED, encode
+
 BATCH = 100                 # images for one run of the program
 MOST = 64000                # the longest image, a little under what the program reads
-CHECK, STATES = 4, 5        # the program's form that checks, and the one that prints the walk after each step
-ABOVE, FROM = 0, 1          # start modes
 SHORT, LONGEST = 8, 256     # the longest cursor that is in Retry where it is above, and the longest of all
 PACKED, EACH = 400, 20      # images in a pack, or more where a shape has not so many in it
 NAMES = 64                  # about so many keys of an image in a pack
@@ -71,16 +72,14 @@ class Oracle:
         return lines, start
 
 
-def request(name, form, w):
-    name = name.encode()
-    return (bytes([len(name)]) + name + bytes([form, w.mode, w.kind]) + struct.pack("<H", len(w.cursor)) + w.cursor
-            + struct.pack("<H", len(w.bound)) + w.bound + struct.pack("<I", len(w.image)) + w.image)
+def request(i, form, w):
+    return encode(f"w{i}", w.image, w.mode, w.cursor, w.kind, w.bound, form)
 
 
 def port(form, walks):
     """What the port prints for each."""
     program = os.path.join(TOP, "target", "bin", "replay")
-    requests = b"".join(request(f"w{i}", form, w) for i, w in enumerate(walks))
+    requests = b"".join(request(i, form, w) for i, w in enumerate(walks))
     out = subprocess.run([program], input=requests, stdout=subprocess.PIPE, check=True).stdout.decode()
     return out.split("\n")[:-1] if form == CHECK else [part.split("\n") for part in out.split("\n\n")[:-1]]
 
@@ -109,16 +108,16 @@ def strike(r, image, look):
             (0, "<I", record.version ^ 1 << r.randrange(32)),
             (4, "<H", r.randrange(1 << 16)),
             (8 + r.randrange(8), "<B", r.randrange(256)),
-            (16 + 8 * i, "<Q", r.choice([0, images.TOP - 1, r.randrange(images.TOP)])),
+            (16 + 8 * i, "<Q", r.choice([0, layout.TOP - 1, r.randrange(layout.TOP)])),
             (136 + i, "<B", r.choice([0, 1, 7, 8, 9, 63, 64, 65, 127, 128, 255])),
             (152 + 8 * i, "<Q", offset),
             (272 + 8 * i, "<I", offset & 0xffffffff),
             (276 + 8 * i, "<I", r.choice([0, 1, 8, 247, 248, 249, 256, 257, len(b), r.randrange(1 << 32)])),
             (392, "<Q", offset),
-        ] if isinstance(record, Leaf) else [
+        ] if isinstance(record, layout.Leaf) else [
             (0, "<I", record.version ^ 1 << r.randrange(32)),
             (4, "<B", r.choice([0, 1, 14, 15, 16, 255])),
-            (8 + 8 * i, "<Q", r.choice([0, images.TOP - 1, r.randrange(images.TOP)])),
+            (8 + 8 * i, "<Q", r.choice([0, layout.TOP - 1, r.randrange(layout.TOP)])),
             (128 + 8 * i, "<Q", offset),
         ])
         struct.pack_into(form, b, record.at + at, value)
@@ -130,12 +129,12 @@ def waylay(r, image, look, cursor):
     suffix to one with which the key has 256 bytes, or 257."""
     b = bytearray(image)
     way = [(len(front), leaf) for front, leaf in look.places if leaf.slots and cursor.startswith(front)]
-    met = [(off, leaf) for off, leaf in way if any(s.ikey == images.ikey(cursor[off:]) for s in leaf.slots)]
+    met = [(off, leaf) for off, leaf in way if any(s.ikey == layout.ikey(cursor[off:]) for s in leaf.slots)]
     if not way:
         return strike(r, image, look)
     for _ in range(r.randrange(1, 5)):
         off, leaf = r.choice(met or way)
-        ikey = images.ikey(cursor[off:])
+        ikey = layout.ikey(cursor[off:])
         here = [i for i, s in enumerate(leaf.slots) if s.ikey == ikey] or range(len(leaf.slots))
         i = r.choice(here)
         like = leaf.order[i]
@@ -182,7 +181,7 @@ def long_cursor(r, keys, fronts):
     k = r.choice(keys)
     at = r.choice([r.randrange(len(k) + 1), max(len(k) - 1, 0)])
     other = bytes([r.choice([r.randrange(256), (k[at] + r.choice([1, 255])) % 256])]) if at < len(k) else b"a"
-    more = r.choice([images.random_key(r, 256), shapes.some(r, r.randrange(1, 10))])
+    more = r.choice([trees.random_key(r, 256), trees.some(r, r.randrange(1, 10))])
     fill = r.choice([b"\0", b"a", b"\xff"])
     cursor = r.choice([k, k, k[:at] + other + k[at + 1:], k[:at], k + more, k + fill, k[:at - at % 8] + more,
                        k[:at - at % 8] + other + more, r.choice(fronts) + more, r.choice(fronts) + fill, more])
@@ -199,10 +198,10 @@ def walks_of(r, image, look):
         if r.random() < 0.5:
             cursor, mode = long_cursor(r, longer, look.fronts or keys), r.choice([ABOVE, FROM])
         else:
-            cursor = r.choice([b"", near(r, keys)[:8], r.choice(keys)[:r.randrange(9)], images.random_key(r, 8)[:8]])
+            cursor = r.choice([b"", near(r, keys)[:8], r.choice(keys)[:r.randrange(9)], trees.random_key(r, 8)[:8]])
             mode = r.choice([ABOVE, ABOVE, ABOVE, FROM])
         longest = near(r, keys).ljust(256, r.choice([b"\0", b"a", b"\xff"]))
-        bound = r.choice([near(r, keys), near(r, keys), images.random_key(r, 20), b"", longest])
+        bound = r.choice([near(r, keys), near(r, keys), trees.random_key(r, 20), b"", longest])
         target = (damage(r, image) if sort == "bytes" else strike(r, image, look) if sort == "fields"
                   else waylay(r, image, look, cursor) if sort == "way" else image)
         yield Walk(target, None if sort else look, mode, cursor, r.randrange(3), bound)
@@ -310,10 +309,10 @@ def compare(count, seed, pack):
     while done < count:
         drawn = []
         while len(drawn) < min(BATCH, -(-(count - done) // 6)):
-            root = shapes.tree(r)
-            image = images.write(root)
+            root = trees.tree(r)
+            image = layout.build(root)
             if len(image) <= MOST:
-                drawn.append(Walk(image, shapes.Look(root), ABOVE, b"", 0, b""))
+                drawn.append(Walk(image, shapes.Look(root), ABOVE, b"", UNBOUNDED, b""))
         batch = []
         for i, (w, said) in enumerate(zip(drawn, port(CHECK, drawn), strict=True)):
             if said == f"w{i} accepted {w.look.leaves} {w.look.values} {w.look.layers}":
@@ -342,14 +341,15 @@ def compare(count, seed, pack):
 def common_walks(r, most):
     """Random walks over the common trees, two accepted to one damaged, above the cursor."""
     while True:
-        root, keys = images.random_tree(r)
-        image = images.write(root)
+        keys = trees.random_keys(r)
+        root = trees.random_tree(r, keys)
+        image = layout.build(root)
         if len(image) > most:
             continue
         look, keys = shapes.Look(root), list(keys) or [b""]
         for damaged in (False, False, True):
-            cursor = r.choice([b"", r.choice(keys)[:8], images.random_key(r, 8)[:8]])
-            bound = r.choice([r.choice(keys), images.random_key(r, 20)])[:256]
+            cursor = r.choice([b"", r.choice(keys)[:8], trees.random_key(r, 8)[:8]])
+            bound = r.choice([r.choice(keys), trees.random_key(r, 20)])[:256]
             target = damage(r, image) if damaged else image
             yield Walk(target, None if damaged else look, ABOVE, cursor, r.choice([0, 0, 1, 2]), bound)
 
@@ -368,7 +368,7 @@ def store(folder):
         if want[sort] == 0 or len(lines) > 40:
             continue
         want[sort] -= 1
-        requests.append(request(f"w{len(requests)}", STATES, w))
+        requests.append(request(len(requests), STATES, w))
         answers.append("\n".join(lines) + "\n\n")
         if not any(want.values()):
             break

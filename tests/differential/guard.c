@@ -118,14 +118,14 @@ static uint64_t walk_whole(int from, const struct ask *a, const uint64_t counts[
 /* Start in a layer that a walk is in: its root, its parents on the stack, and the cursor from there on. */
 static void put_start(struct walk *w, uint64_t depth, int from)
 {
-    uint64_t *n = w->numbers, whole = n[4] + n[5];
-    n[1] = depth < n[7] ? n[12 + 2 * depth] : n[1];
-    n[7] = depth;
-    n[4] = 8 * depth;
-    n[5] = whole - n[4];
-    n[6] = ikey_of(w->buf + n[4], n[5]);
-    n[10] = 0;
-    n[11] = (uint64_t)from;
+    uint64_t *n = w->numbers, whole = n[PB_OFFSET] + n[PB_LEN];
+    n[PB_ROOT] = depth < n[PB_DEPTH] ? n[PB_STACK + 2 * depth] : n[PB_ROOT];
+    n[PB_DEPTH] = depth;
+    n[PB_OFFSET] = 8 * depth;
+    n[PB_LEN] = whole - n[PB_OFFSET];
+    n[PB_IKEY] = ikey_of(w->buf + n[PB_OFFSET], n[PB_LEN]);
+    n[PB_STATE] = 0;
+    n[PB_MODE] = (uint64_t)from;
 }
 
 /* Pages resumed, those after a key in a sub-layer, and the keys that were then compared. */
@@ -154,10 +154,10 @@ static void resumed(const struct picture *p)
     }
     int from = (int)below(2);
     again = first;
-    put_start(&again, below(first.numbers[7] + 1), from);
+    put_start(&again, below(first.numbers[PB_DEPTH] + 1), from);
     fill(again.buf + out[1], PB_BUFFER - out[1]);
     if (below(2)) {
-        fill(again.buf + again.numbers[4], 8);
+        fill(again.buf + again.numbers[PB_OFFSET], 8);
     }
     if (from || out[1] <= 8) {
         must(step(&again, others, 4) == 0 && memcmp(others, out, 3 * sizeof *out) == 0, "a key is not there once more");
@@ -167,7 +167,7 @@ static void resumed(const struct picture *p)
     memcpy(a.cursor, first.buf, out[1]);
     must(place(&anew, 0, &a) == 0, "a placing above a key");
     pages++;
-    pages_below += first.numbers[7] > 0;
+    pages_below += first.numbers[PB_DEPTH] > 0;
     for (int n = 0; n < 20 && out[0] == 1; n++) {
         must(step(&first, out, 4) == 0, "a step over an accepted image was declined");
         struct walk *other[] = {&anew, &again};
@@ -265,30 +265,31 @@ static void lengths(struct walk *w)
 /* A value for one number of a record. */
 static uint64_t draw_number(const uint64_t *n, size_t i, const struct picture *p)
 {
-    uint64_t wild = any(), small = below(32), offset = draw_offset(p), here = image_len, left = n[4] < 256 ? 256 - n[4] : 0;
+    uint64_t wild = any(), small = below(32), offset = draw_offset(p), here = image_len;
+    uint64_t left = n[PB_OFFSET] < 256 ? 256 - n[PB_OFFSET] : 0;
     if (below(40) == 0) {
         return wild;
     }
     switch (i) {
-    case 0:
+    case PB_IMAGE_LEN:
         return ONE_OF(here, here, here, here, here, here, here + 8, here - 8, 0);
-    case 3:
+    case PB_POSITION:
         return ONE_OF(small & 15, small & 15, small & 15, 0, 14, 15, 16);
-    case 4:
-        return 8 * n[7] + ONE_OF(0, 0, 0, 0, 0, 0, 1, ~0ull, 8);
-    case 5:
+    case PB_OFFSET:
+        return 8 * n[PB_DEPTH] + ONE_OF(0, 0, 0, 0, 0, 0, 1, ~0ull, 8);
+    case PB_LEN:
         return ONE_OF(small & 15, small & 15, 8, 9, wild % (left + 1), left - 1, left, left + 1, 256);
-    case 6:
+    case PB_IKEY:
         return ONE_OF(wild, 0, ~0ull, word(image + (wild % (p->len - 8))));
-    case 7:
+    case PB_DEPTH:
         return ONE_OF(small, small, small, 0, 0, 1, 30, 31, 32, 33);
-    case 8:
+    case PB_KIND:
         return ONE_OF(0, 0, 1, 1, 2, 2, 0, 1, 2, 3, 255, 256);
-    case 9:
+    case PB_BOUND_LEN:
         return ONE_OF(small, small, 0, 255, 256, 257);
-    case 10:
+    case PB_STATE:
         return ONE_OF(0, 1, 2, 0, 1, 2, 2, 2, 3, 4);
-    case 11:
+    case PB_MODE:
         return ONE_OF(0, 1, 0, 1, 0, 1, 0, 1, 0, 1, 2, 255, 256, 1ull << 32, 1ull << 63, ~0ull);
     default:
         return offset;
@@ -299,22 +300,22 @@ static uint64_t draw_number(const uint64_t *n, size_t i, const struct picture *p
 static void alter_start(struct walk *w, const struct picture *p)
 {
     uint64_t *n = w->numbers, depth = below(32), root = word(image + image_len - TRAILER), offset = draw_offset(p);
-    if (n[7] < 32 && n[4] == 8 * n[7] && n[5] <= 256 - n[4] && below(2)) {
-        put_start(w, below(n[7] + 1), (int)below(2));
+    if (n[PB_DEPTH] < 32 && n[PB_OFFSET] == 8 * n[PB_DEPTH] && n[PB_LEN] <= 256 - n[PB_OFFSET] && below(2)) {
+        put_start(w, below(n[PB_DEPTH] + 1), (int)below(2));
     } else {
-        n[7] = depth;
-        n[4] = 8 * depth;
-        n[5] = draw_number(n, 5, p);
-        n[1] = ONE_OF(root, root, n[1], offset);
+        n[PB_DEPTH] = depth;
+        n[PB_OFFSET] = 8 * depth;
+        n[PB_LEN] = draw_number(n, PB_LEN, p);
+        n[PB_ROOT] = ONE_OF(root, root, n[PB_ROOT], offset);
         if (below(4)) {
-            n[5] = draw_key(p, w->buf + n[4], 256 - n[4]);
+            n[PB_LEN] = draw_key(p, w->buf + n[PB_OFFSET], 256 - n[PB_OFFSET]);
         }
-        n[6] = below(4) ? ikey_of(w->buf + n[4], 8) : draw_number(n, 6, p);
-        n[10] = 0;
-        n[11] = draw_number(n, 11, p);
+        n[PB_IKEY] = below(4) ? ikey_of(w->buf + n[PB_OFFSET], 8) : draw_number(n, PB_IKEY, p);
+        n[PB_STATE] = 0;
+        n[PB_MODE] = draw_number(n, PB_MODE, p);
     }
     if (below(4) == 0) {
-        n[5] = draw_number(n, 5, p);
+        n[PB_LEN] = draw_number(n, PB_LEN, p);
     }
     if (below(8) == 0) {
         fill(w->buf + below(256), 1);
@@ -328,12 +329,12 @@ static void alter(struct walk *w, const struct picture *p)
         size_t i = all ? PB_NUMBERS - n : below(2) ? below(12) : below(PB_NUMBERS);
         w->numbers[i] = draw_number(w->numbers, i, p);
         if (i == 7) {
-            w->numbers[4] = draw_number(w->numbers, 4, p);
+            w->numbers[PB_OFFSET] = draw_number(w->numbers, PB_OFFSET, p);
         }
     }
     if (all) {
-        w->numbers[4] = draw_number(w->numbers, 4, p);
-        w->numbers[5] = draw_number(w->numbers, 5, p);
+        w->numbers[PB_OFFSET] = draw_number(w->numbers, PB_OFFSET, p);
+        w->numbers[PB_LEN] = draw_number(w->numbers, PB_LEN, p);
         fill(w->bound, below(257));
     }
     if (below(2)) {

@@ -1,7 +1,5 @@
 -- Laws of `pick`. Assumes nothing.
-use mathlib.Core.Path.{_≡_, refl, sym, _∙_}
-use mathlib.Core.Bool.{Bool, true, false, not}
-use borrow.Author.Tests.{not-true, not-false}
+use Rattle.base.specs.Kit.{_≡_, refl, sym, _∙_, Bool, true, false, not, ℕ, _≤_, _<_, leb, eqb, not-true, not-false, le-leb, lt-leb, eq-eqb, ne-eqb}
 use Rattle.base.specs.Pick.{pick}
 
 -- a case split on a test, with what the test says in each case
@@ -9,6 +7,23 @@ pub pick-ind : {A : Type 0} (P : A → Type 0) (b : Bool) {x y : A} → (b ≡ t
 unfolding pick
 pick-ind P true f g = f refl
 pick-ind P false f g = g refl
+
+-- the two cases of a test, with what it says in each
+pub by-test : {A : Type 0} (b : Bool) → (b ≡ true → A) → (b ≡ false → A) → A
+by-test true f g = f refl
+by-test false f g = g refl
+
+-- a function of a choice
+pub pick-map : {A B : Type 0} (f : A → B) (b : Bool) (x y : A) → f (pick b x y) ≡ pick b (f x) (f y)
+unfolding pick
+pick-map f true x y = refl
+pick-map f false x y = refl
+
+-- a choice by the same test within
+pub pick-inner : {A B : Type 0} (f : A → B) (b : Bool) (x y : A) (z : B) → pick b (f (pick b x y)) z ≡ pick b (f x) z
+unfolding pick
+pick-inner f true x y z = refl
+pick-inner f false x y z = refl
 
 -- What a call's answer r, which is the test b, says of b, where the code tests `!r`; and of a choice by b or by its negation: r
 -- itself was tested, or `!r`.
@@ -49,3 +64,43 @@ module _ (b r : Bool) (e : r ≡ b) where
 
 -- All of them, for `search`: it settles a choice by a call's answer on the way to a return.
 pub ruleset choices = (pick-on, pick-off, pick-not-on, pick-not-off, not-pick-on, not-pick-off, not-pick-not-on, not-pick-not-off)
+
+-- Choices by a number x that a call returned, and which the definition reads as a.
+module _ {A : Type 0} (a b x : ℕ) (e : x ≡ a) where
+  pub differs : (p q z : A) → (x ≡ b → ⊥) → z ≡ p → z ≡ pick (not (eqb a b)) p q
+  unfolding pick
+  differs p q z h g = rw (← e, ne-eqb x b h) g
+
+  pub agrees : (p q z : A) → x ≡ b → z ≡ q → z ≡ pick (not (eqb a b)) p q
+  unfolding pick
+  agrees p q z h g = rw (← e, eq-eqb x b h) g
+
+  pub is-such : (p q z : A) → x ≡ b → z ≡ p → z ≡ pick (eqb a b) p q
+  unfolding pick
+  is-such p q z h g = rw (← e, eq-eqb x b h) g
+
+  pub is-other : (p q z : A) → (x ≡ b → ⊥) → z ≡ q → z ≡ pick (eqb a b) p q
+  unfolding pick
+  is-other p q z h g = rw (← e, ne-eqb x b h) g
+
+  pub reaches : (p q z : A) → b ≤ x → z ≡ p → z ≡ pick (leb b a) p q
+  unfolding pick
+  reaches p q z h g = rw (← e, le-leb b x h) g
+
+  pub falls-short : (p q z : A) → x < b → z ≡ q → z ≡ pick (leb b a) p q
+  unfolding pick
+  falls-short p q z h g = rw (← e, lt-leb b x h) g
+
+  pub fits : (p q z : A) → x ≤ b → z ≡ p → z ≡ pick (leb a b) p q
+  unfolding pick
+  fits p q z h g = rw (← e, le-leb x b h) g
+
+  pub exceeds : (p q z : A) → b < x → z ≡ q → z ≡ pick (leb a b) p q
+  unfolding pick
+  exceeds p q z h g = rw (← e, lt-leb x b h) g
+
+-- By a number of the function's own.
+pub unlike : {A : Type 0} (a b : ℕ) (p q z : A) → (a ≡ b → ⊥) → z ≡ q → z ≡ pick (eqb a b) p q
+unlike a b p q z h g = is-other a b a refl p q z h g
+
+pub ruleset by-number = (differs, agrees, is-such, is-other, reaches, falls-short, fits, exceeds, unlike)

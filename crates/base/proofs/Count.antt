@@ -1,7 +1,5 @@
 -- What is left of a count, for loops whose definition recurses on it. Assumes nothing.
-use mathlib.Core.Path.{_≡_}
-use Prim.Native.Nat.{ℕ, _+_, _-_, _<_, suc}
-use native.Mathlib.Omega.{arith}
+use Rattle.base.specs.Kit.{_≡_, ℕ, _+_, _-_, _<_, suc, arith}
 
 -- one more turn: something is left, and a turn takes one of it
 pub left-more : (n i : ℕ) → i < n → n - i ≡ suc (n - (i + 1))

@@ -1,4 +1,4 @@
 pub mod Choice
 pub mod Tests
 pub mod Count
-pub mod Paste
+pub mod Needs

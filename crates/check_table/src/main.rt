@@ -1,15 +1,12 @@
 // The check, executed: 01's limits on an image's length, and the table of tools/images.py, in which each image is in order or has
 // one fault.
 use node::trailer;
-
-fn put(text: &[u8]) {
-    io::write_all(libc::STDOUT_FILENO, text);
-}
+use requests::item;
+use requests::put;
 
 // What the length test says of a length.
 fn length(n: usize) {
-    put(b"length ");
-    io::print_decimal(libc::STDOUT_FILENO, n as u64);
+    item(b"length ", n as u64);
     if trailer::is_length_ok(n) {
         put(b" passes\n");
     } else {

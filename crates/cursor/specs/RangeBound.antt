@@ -1,9 +1,5 @@
 -- The bound (01: "bound kind 0 unbounded, 1 included, 2 excluded"; module 2: "`contains`, plain byte order").
-use mathlib.Core.Bool.{Bool, true, false}
-use mathlib.Core.List.{List}
-use Prim.Native.Nat.{ℕ}
-use lib.Dec.{eqb}
-use lib.ListN.{length, replicate}
+use Rattle.base.specs.Kit.{Bool, true, false, List, ℕ, eqb, length, replicate}
 use Rattle.base.specs.Pick.{pick}
 use Rattle.key.specs.Order.{byteOrder}
 use Rattle.key.specs.Part.{padded}

@@ -3,9 +3,7 @@
 // The Rust's CursorKey holds its buffer, and its methods change it in place. Here the buffer is lent to the methods that
 // read or write it, and the three numbers go by value, so that no call copies 256 bytes.
 use key::Ordering;
-ghost use mathlib.Core.Path.{_≡_};
-ghost use Prim.Native.Nat.{_+_, _≤_, _<_};
-ghost use lib.ListN.{length};
+ghost use Rattle.base.specs.Kit.{_≡_, _+_, _≤_, _<_, length};
 ghost use Rattle.key.specs.Order.{byteOrder};
 ghost use Rattle.cursor.specs.CursorKey.{fromSlice, shiftClear, shift, unshift, hasSuffix, suffixOf, compareSlot, storeIkey, withIkey, withLength, storeSuffix};
 
@@ -133,7 +131,8 @@ impl CursorPlace {
     }
 
     // A slot's ikey into the buffer, at the layer's place.
-    pub fn assign_store_ikey(self, buf: &mut [u8; 256], ikey: u64) -> CursorPlace
+    pub fn assign_store_ikey(self, buf: &mut [u8], ikey: u64) -> CursorPlace
+        requires { ⌜ length (now buf) ≡ 256 ⌝ }
         requires { ⌜ self .offset ≤ 248 ⌝ }
         ensures { λ r. ⌜ (r ≡ withIkey self ikey) × (now (buf .exit) ≡ storeIkey (now (buf .entry)) (self .offset) ikey) ⌝ }
     {
@@ -148,11 +147,12 @@ impl CursorPlace {
     }
 
     // A slot's suffix into the buffer, past the layer's ikey; the length of both.
-    pub fn assign_store_suffix(self, buf: &mut [u8; 256], suffix: &[u8]) -> usize
+    pub fn assign_store_suffix(self, buf: &mut [u8], suffix: &[u8]) -> usize
+        requires { ⌜ length (now buf) ≡ 256 ⌝ }
         requires { ⌜ self .offset + 8 + length (now suffix) ≤ 256 ⌝ }
         ensures { λ r. ⌜ (r ≡ 8 + length (now (suffix .entry))) × (now (buf .exit) ≡ storeSuffix (now (buf .entry)) (self .offset) (now (suffix .entry))) ⌝ }
     {
-        key::copy_in(buf, self.offset + 8, suffix);
+        key::copy_words_in(buf, self.offset + 8, suffix);
         8 + suffix.len()
     }
 

@@ -1,8 +1,6 @@
 // Where a walk begins and where it ends (the Rust's iterator/range_bound.rs).
 use key::Ordering;
-ghost use mathlib.Core.Path.{_≡_};
-ghost use Prim.Native.Nat.{_≤_};
-ghost use lib.ListN.{length, take};
+ghost use Rattle.base.specs.Kit.{_≡_, _≤_, length};
 ghost use Rattle.cursor.specs.RangeBound.{contains, boundOf};
 
 // Where a walk begins: above its cursor, or from it on.
@@ -50,26 +48,4 @@ pub fn contains(kind: u8, bound: &[u8], key: &[u8]) -> bool
         Ordering::Equal => kind == 1,
         Ordering::Greater => false,
     }
-}
-
-// The same of the first bytes of two buffers.
-pub fn contains_first<'a>(
-    kind: u8,
-    bound: &'a [u8; 256],
-    bound_len: usize,
-    buf: &'a [u8; 256],
-    len: usize,
-) -> bool
-    requires { ⌜ «bound_len» ≤ 256 ⌝ }
-    requires { ⌜ len ≤ 256 ⌝ }
-    ensures { λ r. ⌜ r ≡ contains kind (take «bound_len» (now (bound .entry))) (take len (now (buf .entry))) ⌝ }
-{
-    if kind == 0 {
-        return true;
-    }
-    contains(
-        kind,
-        key::part_of(bound, 0, bound_len),
-        key::part_of(buf, 0, len),
-    )
 }

@@ -1,44 +1,30 @@
 -- A fresh walk over an accepted image stands before a row (`begin`), whatever its cursor: what is left of it is what lies
 -- past the start, and the potential is no more than the tree weighs.
-use mathlib.Core.Path.{_≡_, refl, ap, sym, _∙_, subst}
-use mathlib.Core.List.{List, [], _++_, append-nil}
-use mathlib.Core.Bool.{true, false}
-use Prim.Native.Nat.{ℕ, suc, _+_, _*_, _-_, _≤_, _<_}
-use native.Mathlib.Omega.{arith}
-use lib.Dec.{ltb}
-use lib.ListN.{length, getD, replicate, length-replicate}
-use borrow.Author.Tests.{lt-ltb, le-ltb}
+use Rattle.base.specs.Kit.{_≡_, refl, ap, sym, _∙_, subst, List, [], _++_, append-nil, true, ℕ, suc, _+_, _*_, _-_, _≤_, _<_, arith, ltb, length, getD, replicate, lt-ltb, le-ltb}
 use Rattle.base.specs.Pick.{pick}
 use Rattle.base.proofs.Choice.{pick-ind}
 use Rattle.key.specs.Ikey.{ikeyOf}
 use Rattle.key.specs.Part.{padded}
-use Rattle.key.specs.declared.Ordering.{Ordering}
+use Rattle.demands.specs.Types.{Ordering, CursorPlace, ReachedLeaf, StartMode, Above, From, WalkState, WalkStateStart as Start, WalkStateRetry as Retry}
 use Rattle.key.proofs.Order.{Cmp, is-lt, is-eq, is-gt, cmp}
 use Rattle.key.proofs.Bytes.{Bytes}
-use Rattle.key.proofs.Ikey.{rank, padded-length}
+use Rattle.key.proofs.Ikey.{rank}
 use Rattle.node.specs.Layout.{rootOffset}
 use Rattle.cursor.specs.CursorKey.{fromSlice}
-use Rattle.cursor.specs.declared.cursor_key.CursorPlace.{CursorPlace}
 use Rattle.layering.specs.Tree.{treeOf}
 use Rattle.layering.specs.Accepted.{Obeys}
-use Rattle.layering.specs.Sieve.{sieve}
+use Rattle.layering.specs.Sieve.{sieve, past}
 use Rattle.layering.proofs.Row.{Row, stop, keys, weight}
 use Rattle.layering.proofs.Flat.{flatN}
 use Rattle.layering.proofs.Pairs.{obeys-row}
 use Rattle.layering.proofs.Walk.{Stack, bottom, seek, above, climb, pot}
 use Rattle.layering.proofs.Descent.{Past, past-asc, NextHop, routeN, descentN, hopN}
 use Rattle.search.specs.Traversal.{reach}
-use Rattle.search.specs.declared.traversal.Reached.the-variants.{Leaf as ReachedLeaf}
-use Rattle.cursor.specs.declared.range_bound.StartMode.{StartMode}
-use Rattle.cursor.specs.declared.range_bound.StartMode.the-variants.{Above, From}
-use Rattle.moves.specs.declared.scan_state.ScanState.{ScanState}
-use Rattle.moves.specs.declared.scan_state.ScanState.the-variants as loop
-use Rattle.scan.specs.Machine.{Scan, emptyContext, shortState, startState, freshWalk, scanState, lastIkey, scanOf}
-use Rattle.scan.specs.declared.scan_state.WalkState.{WalkState}
-use Rattle.scan.specs.declared.scan_state.WalkState.the-variants.{Start, Retry}
-use Rattle.demands.specs.Demand.{past}
+use Rattle.moves.specs.declared.context.ScanState.the-variants as loop
+use Rattle.walk.specs.Placing.{startState, freshWalk}
+use Rattle.scan.specs.Machine.{Scan, scanState, lastIkey, scanOf}
 use Rattle.demands.proofs.Search.{reached-at, stands}
-use Rattle.demands.proofs.Relation.{At, Piled, Core, Nexts, Rep}
+use Rattle.demands.proofs.Relation.{At, Nexts, Rep}
 use Rattle.demands.proofs.Follow.{arrived, retried}
 use Rattle.demands.proofs.Sound.{sound}
 use Rattle.demands.proofs.Reach.{reachN}
@@ -60,11 +46,11 @@ unfolding startState pick
 past-eight mode x h = rw (lt-ltb 8 (length x) h)
 
 from-start : (x : List ℕ) → startState From (length x) ≡ Start
-unfolding startState shortState
+unfolding startState
 from-start x = pick-ind (λ (s : WalkState). s ≡ Start) (ltb 8 (length x)) (λ t. refl) (λ t. refl)
 
 above-retry : (x : List ℕ) → length x ≤ 8 → startState Above (length x) ≡ Retry
-unfolding startState shortState pick
+unfolding startState pick
 above-retry x h = rw (le-ltb 8 (length x) h)
 
 -- Where a fresh walk stands, s its first scan.
@@ -168,7 +154,7 @@ module _ (image : List ℕ) (b : (i : ℕ) → getD image i 0 < 256) (o : Obeys 
   -- EVERY FRESH WALK. The bound's arguments are the walk's own (kind′ and bound′) and those that its moves go by.
   pub begin-at : (mode : StartMode) (kind′ : ℕ) (bound′ : List ℕ) → length x ≤ 256
       → Begun image mode x kind bound (scanOf (freshWalk image mode x kind′ bound′))
-  unfolding scanState lastIkey Wide
+  unfolding Wide
   begin-at From kind′ bound′ h =
       subst (Begun image From x kind bound) (sym (fresh-scan image From x kind′ bound′ Start (from-start x)))
       (begin-start From tt h)

@@ -1,16 +1,17 @@
 -- The cursor's buffer: what its front holds after an ikey, or an ikey and a suffix, is stored at the layer's place; and
 -- what `unshift` reads there. Assumes that they fit into the buffer.
-use mathlib.Core.Path.{_≡_, ap, sym, _∙_, subst}
-use mathlib.Core.List.{List, _++_, append-assoc}
-use Prim.Native.Nat.{ℕ, _+_, _-_, _^_, _≤_, _<_}
-use native.Mathlib.Omega.{arith}
-use lib.ListN.{length, take, drop, length-append, take-append-drop}
-use lib.Seq.{paste, take-all, take-length, length-take-le, length-paste, take-paste, take-take, take-at, drop-at, take-append-le, take-append-add}
-use Rattle.base.proofs.Paste.{paste-front}
+use Rattle.base.specs.Kit.{_≡_, ap, sym, _∙_, subst, List, _++_, append-assoc, ℕ, _+_, _-_, _^_, _≤_, _<_, arith, length, take, drop, take-append-drop, take-all, take-length, length-take-le, length-paste, take-paste, take-take, take-at, drop-at, take-append-add, length-append, paste, take-append-le}
 use Rattle.key.specs.Ikey.{ikeyOf, ikeyBytes}
 use Rattle.key.specs.Part.{part}
 use Rattle.key.proofs.Ikey.{ikeyBytes-length, ikeyOf-ikeyBytes}
 use Rattle.cursor.specs.CursorKey.{storeIkey, storeSuffix}
+
+-- what stands before a copy
+paste-front : (d s : List ℕ) (at n m : ℕ) → m ≤ at → at ≤ length d → take m (paste d at s n) ≡ take m d
+paste-front d s at n m h k =
+    let e : length (take at d) ≡ at = length-take-le at d k in
+    take-append-le m (take at d ++ take n s) (drop (at + n) d) (omega (arith, length-append (take at d) (take n s)))
+    ∙ take-append-le m (take at d) (take n s) (omega arith) ∙ take-take m at d h
 
 module _ (buf : List ℕ) (offset x : ℕ) (fits : offset + 8 ≤ length buf) where
   pub ikey-length : length (storeIkey buf offset x) ≡ length buf

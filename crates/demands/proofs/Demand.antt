@@ -2,24 +2,18 @@
 -- (01: "Demand 3 is one claim about its whole list, not one for each step"). The idea of the proof: the machine over
 -- the image follows a machine over the row of the tree, whose potential pays for every move (proofs/Follow.antt,
 -- Run.antt and Steps.antt).
-use mathlib.Core.Path.{_≡_, ap}
-use mathlib.Core.List.{List}
-use Prim.Native.Nat.{ℕ, _+_, _*_, _≤_, _<_}
-use lib.ListN.{length, getD}
-use Rattle.cursor.specs.RangeBound.{contains}
-use Rattle.layering.specs.Keys.{Pair, livePairs}
+use Rattle.base.specs.Kit.{_≡_, List, ℕ, _+_, _*_, _≤_, _<_, length, getD}
 use Rattle.layering.specs.Ascending.{Ascending}
-use Rattle.layering.specs.Sieve.{sieve}
+use Rattle.layering.specs.Sieve.{rowOf}
+use Rattle.layering.proofs.Asked.{row-in-order}
 use Rattle.verify.specs.Check.{accepted, check}
-use Rattle.verify.specs.declared.Counts.{Counts}
+use Rattle.demands.specs.Types.{Counts, StartMode, Walk, Declined}
 use Rattle.verify.proofs.Theorem.{accepted-obeys, treeCounts}
-use Rattle.scan.specs.Machine.{place, step}
-use Rattle.cursor.specs.declared.range_bound.StartMode.{StartMode}
-use Rattle.scan.specs.declared.scan_state.Walk.{Walk}
-use Rattle.scan.specs.declared.scan_state.Answer.the-variants.{Declined}
-use Rattle.demands.specs.Demand.{Call, steps, Lent, said, movesOf, past, rowOf, due}
+use Rattle.walk.specs.Placing.{place}
+use Rattle.scan.specs.Machine.{step}
+use Rattle.demands.specs.Demand.{Call, steps, Lent, said, movesOf, due}
 use Rattle.demands.proofs.Steps.{other-length}
-use Rattle.demands.proofs.Whole.{taken, takes, row-in-order, fresh-steps}
+use Rattle.demands.proofs.Whole.{taken, takes, fresh-steps}
 
 -- Over an image that the check accepts, with c its three numbers; a placing that is taken, in either mode; and any list of steps,
 -- by value or with the walk lent, each given
@@ -54,11 +48,3 @@ foreign = other-length
 pub row-ascends : (image : List ℕ) → ((i : ℕ) → getD image i 0 < 256) → (c : Counts) → check image ≡ accepted c
     → (mode : StartMode) (cursor : List ℕ) (kind : ℕ) (bound : List ℕ) → Ascending (rowOf image mode cursor kind bound)
 row-ascends image b c a = row-in-order image b (accepted-obeys image c a .0)
-
--- The row goes by the live pairs alone: images that hold the same ones give the same row.
-pub same-row : (image other : List ℕ) → livePairs image ≡ livePairs other
-    → (mode : StartMode) (cursor : List ℕ) (kind : ℕ) (bound : List ℕ)
-    → rowOf image mode cursor kind bound ≡ rowOf other mode cursor kind bound
-unfolding rowOf
-same-row image other e mode cursor kind bound =
-    ap (λ (l : List Pair). sieve (contains kind bound) (sieve (past mode cursor) l)) e

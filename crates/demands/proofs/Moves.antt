@@ -1,32 +1,17 @@
 -- What a move comes to where no fault is met: over a leaf in order each pass of FindNext is one of six, and the
 -- duplicate check goes by rank. Each lemma takes one test's way through the definitions of the machine.
-use mathlib.Core.Path.{_≡_, refl, ap, _∙_}
-use mathlib.Core.List.{List}
-use mathlib.Core.Bool.{Bool, true, false}
-use Prim.Native.Nat.{ℕ, _+_, _*_, _≤_, _<_, min}
-use native.Mathlib.Omega.{arith}
-use lib.Dec.{leb, ltb}
-use borrow.Author.Tests.{le-ltb, le-leb, lt-leb, eq-eqb, ne-eqb}
+use Rattle.base.specs.Kit.{_≡_, refl, ap, _∙_, List, Bool, true, false, ℕ, _+_, _*_, _≤_, _<_, min, arith, leb, ltb, le-ltb, le-leb, lt-leb, eq-eqb, ne-eqb}
 use Rattle.base.specs.Pick.{pick}
 use Rattle.key.specs.Order.{order, then}
-use Rattle.key.specs.declared.Ordering.{Ordering}
-use Rattle.key.specs.declared.Ordering.the-variants.{Less, Equal, Greater}
+use Rattle.demands.specs.Types.{Ordering, OrderingLess as Less, OrderingEqual as Equal, OrderingGreater as Greater, Slot, CursorPlace, SearchedAt as At, FindNext, Up, ScanCtx, Continue, Duplicate, No, Yes}
 use Rattle.key.proofs.Order.{Cmp, is-lt, is-eq, is-gt, cmp}
 use Rattle.node.specs.Layout.{nextAt}
-use Rattle.node.specs.declared.permuter.Slot.{Slot}
 use Rattle.cursor.specs.CursorKey.{compareSlot}
-use Rattle.cursor.specs.declared.cursor_key.CursorPlace.{CursorPlace}
 use Rattle.layering.specs.Tree.{Fields, fieldsAt}
 use Rattle.layering.proofs.Part.{slotRank}
 use Rattle.search.specs.Traversal.{leafThere}
 use Rattle.search.specs.Helper.{position, slotIn, byOrder, lowerWithSuffix}
-use Rattle.search.specs.declared.helper.Searched.the-variants.{At}
-use Rattle.moves.specs.Moves.{standing, advanceLeaf, dupOf, kept, onward, takeInline, takeSuffixed, takeLayer, takeSlot, unlessDup, findSlot, findNext}
-use Rattle.moves.specs.declared.scan_state.ScanState.the-variants.{FindNext, Up}
-use Rattle.moves.specs.declared.scan_state.ScanCtx.{ScanCtx}
-use Rattle.moves.specs.declared.scan_state.Outcome.the-variants.{Continue}
-use Rattle.moves.specs.declared.forward_ctx.Duplicate.{Duplicate}
-use Rattle.moves.specs.declared.forward_ctx.Duplicate.the-variants.{No, Yes}
+use Rattle.moves.specs.Moves.{standAt, standing, advanceLeaf, dupOf, kept, onward, isStorable, takeKey, takeLayer, takeSlot, unlessDup, findSlot, findNext}
 use Rattle.demands.proofs.Leaf.{cursorRank, usedIn, rankAt, LeafOk}
 use Rattle.demands.proofs.Search.{no-suffix}
 
@@ -144,24 +129,24 @@ module _ (image : List ℕ) (kind : ℕ) (bound buf : List ℕ) (c : ScanCtx) (o
 
     -- the three kinds of slot
     pub take-inline : slotOf image c .keylenx ≤ 8
-        → takeSlot image kind bound buf c (slotNo image c) ≡ takeInline image kind bound buf c (slotNo image c)
-    unfolding takeSlot pick fieldsAt
+        → takeSlot image kind bound buf c (slotNo image c) ≡ takeKey image kind bound buf c (slotNo image c)
+    unfolding takeSlot isStorable pick fieldsAt
     take-inline h = rw (le-leb (slotOf image c .keylenx) 8 h)
 
     pub take-suffixed : slotOf image c .keylenx ≡ 64 → c .cursor .offset + 8 + slotOf image c .len ≤ 256
-        → takeSlot image kind bound buf c (slotNo image c) ≡ takeSuffixed image kind bound buf c (slotNo image c)
-    unfolding takeSlot pick fieldsAt
+        → takeSlot image kind bound buf c (slotNo image c) ≡ takeKey image kind bound buf c (slotNo image c)
+    unfolding takeSlot isStorable pick fieldsAt
     take-suffixed h f =
         rw (
           lt-leb (slotOf image c .keylenx) 8 (omega arith),
           eq-eqb (slotOf image c .keylenx) 64 h,
           ok .suffixes (c .position .0) used h,
-          le-ltb 256 (c .cursor .offset + 8 + slotOf image c .len) f,
+          le-leb (c .cursor .offset + 8 + slotOf image c .len) 256 f,
         )
 
     pub take-layer : 128 ≤ slotOf image c .keylenx → c .depth < 31
         → takeSlot image kind bound buf c (slotNo image c) ≡ takeLayer image buf c (slotNo image c)
-    unfolding takeSlot pick fieldsAt
+    unfolding takeSlot isStorable pick fieldsAt
     take-layer h d =
         rw (
           lt-leb (slotOf image c .keylenx) 8 (omega arith),
@@ -173,37 +158,13 @@ module _ (image : List ℕ) (kind : ℕ) (bound buf : List ℕ) (c : ScanCtx) (o
 -- past the last leaf of the layer, and on to the next
 pub advance-up : (image buf : List ℕ) (c : ScanCtx) → nextAt image (c .leaf) ≡ 0
     → advanceLeaf image buf c
-    ≡ record {
-      outcome = Continue;
-      ctx = record {
-        root = c .root;
-        leaf = c .leaf;
-        position = c .position;
-        cursor = c .cursor;
-        depth = c .depth;
-        state = Up;
-        dup = false;
-        last = c .last;
-      };
-    }
+    ≡ record { outcome = Continue; ctx = standAt c (c .leaf) (c .position) (c .cursor) Up false (c .last) }
 unfolding advanceLeaf pick
 advance-up image buf c e = rw (eq-eqb (nextAt image (c .leaf)) 0 e)
 
 pub advance-on : (image buf : List ℕ) (c : ScanCtx) (m : ℕ) → nextAt image (c .leaf) ≡ m → 0 < m
     → leafThere image m ≡ true → lowerWithSuffix image m (c .cursor) buf ≡ At (position 0)
     → advanceLeaf image buf c
-    ≡ record {
-      outcome = Continue;
-      ctx = record {
-        root = c .root;
-        leaf = m;
-        position = position 0;
-        cursor = c .cursor;
-        depth = c .depth;
-        state = FindNext;
-        dup = false;
-        last = c .last;
-      };
-    }
+    ≡ record { outcome = Continue; ctx = standAt c m (position 0) (c .cursor) FindNext false (c .last) }
 unfolding advanceLeaf pick standing
 advance-on image buf c m e h t z = rw (e, ne-eqb m 0 (λ q. omega arith), t, z)

@@ -2,31 +2,22 @@
 -- keys past the start. The idea: what the descent and the search in the leaf pass over ranks below the cursor, or with
 -- it where the walk begins above it; a slot of the cursor's own rank is passed over by the duplicate check, and stands
 -- dead.
-use mathlib.Core.Path.{_≡_, refl, _∙_, subst}
-use mathlib.Core.List.{List, []}
-use mathlib.Core.Bool.{Bool, true, false}
-use Prim.Native.Nat.{ℕ, zero, suc, _+_, _*_, _≤_, _<_}
-use native.Mathlib.Omega.{arith}
-use lib.ListN.{length, replicate, length-replicate}
+use Rattle.base.specs.Kit.{_≡_, refl, _∙_, subst, List, [], true, false, ℕ, zero, suc, _+_, _*_, _≤_, _<_, arith, length, replicate, length-replicate}
 use Rattle.key.specs.Ikey.{ikeyOf}
 use Rattle.key.specs.Part.{padded}
-use Rattle.key.specs.declared.Ordering.{Ordering}
+use Rattle.demands.specs.Types.{Ordering, ScanState, ScanStateRetry as Retry, Above, No}
 use Rattle.key.proofs.Order.{Cmp, is-lt, is-eq, is-gt, cmp}
 use Rattle.key.proofs.Bytes.{Bytes}
 use Rattle.key.proofs.Ikey.{rank, padded-length}
 use Rattle.node.specs.Layout.{rootOffset}
-use Rattle.layering.specs.Sieve.{sieve}
+use Rattle.layering.specs.Sieve.{sieve, past}
 use Rattle.layering.proofs.Row.{Row, stop, hop, val, sub, keys, weight, Asc}
 use Rattle.layering.proofs.Part.{slotRank}
 use Rattle.layering.proofs.Sieve.{all-pass, above-yes, above-no}
 use Rattle.layering.proofs.Walk.{bottom}
 use Rattle.layering.proofs.Descent.{Past, here, over-val, over-sub, past-trans, past-weight, past-sieve, NextHop}
-use Rattle.scan.specs.Machine.{Scan, emptyContext}
-use Rattle.moves.specs.declared.scan_state.ScanState.{ScanState}
-use Rattle.moves.specs.declared.scan_state.ScanState.the-variants.{Retry}
-use Rattle.cursor.specs.declared.range_bound.StartMode.the-variants.{Above}
-use Rattle.moves.specs.declared.forward_ctx.Duplicate.the-variants.{No}
-use Rattle.demands.specs.Demand.{past}
+use Rattle.walk.specs.Walk.{emptyContext}
+use Rattle.scan.specs.Machine.{Scan}
 use Rattle.demands.proofs.Leaf.{usedIn, rankAt, LeafOk}
 use Rattle.demands.proofs.Search.{Stands}
 use Rattle.demands.proofs.Moves.{dupAt, dup-no, dup-yes}
@@ -61,7 +52,7 @@ opening image x state last = record {
 pub core-opening : (image x : List ℕ) (state : ScanState) → length x ≤ 256 → Core image (opening image x state 0) [] bottom
 unfolding opening Piled
 core-opening image x state h = record {
-  fit = record { deep = omega arith; offset = refl; fits = omega arith; place = omega arith };
+  fit = record { place = refl; deep = omega arith; within = omega arith; position = omega arith };
   pre-length = refl;
   pre = refl;
   long = padded-length x h;

@@ -1,13 +1,7 @@
 -- The descent in an image follows the tree's: `reach` comes to the leaf that `routeN` (layering/proofs/Descent.antt)
 -- comes to, and meets no fault. The idea: a child's record lies before its parent's, so that any count above the offset
 -- suffices.
-use mathlib.Core.Path.{_≡_, refl, ap, sym, _∙_, subst}
-use mathlib.Core.List.{List}
-use mathlib.Core.Bool.{Bool, true, false}
-use Prim.Native.Nat.{ℕ, zero, suc, _+_, _≤_, _<_}
-use native.Mathlib.Omega.{arith}
-use lib.Dec.{ltb, eqb}
-use borrow.Author.Tests.{lt-ltb, le-ltb, lt-leb, eqb-true}
+use Rattle.base.specs.Kit.{_≡_, refl, ap, sym, _∙_, subst, List, Bool, true, false, ℕ, zero, suc, _+_, _≤_, _<_, arith, ltb, eqb, lt-ltb, le-ltb, lt-leb, eqb-true}
 use Rattle.base.specs.Pick.{pick}
 use Rattle.node.specs.Layout.{nkeysAt, separatorAt, childAt}
 use Rattle.node.specs.Ksearch.{upperBound}
@@ -19,9 +13,9 @@ use Rattle.layering.proofs.Held.{HeldN}
 use Rattle.layering.proofs.Size.{leaves-fitK, leaves-fitS}
 use Rattle.layering.proofs.Descent.{routeN, routeK, zeroN}
 use Rattle.search.specs.Traversal.{recordAt, byKind, childFor, reachFrom, reach}
-use Rattle.search.specs.declared.traversal.RecordKind.the-variants.{Leaf, Internode}
-use Rattle.search.specs.declared.traversal.Reached.the-variants.{Leaf as ReachedLeaf}
-use Rattle.demands.proofs.Sound.{end-wholeK, end-wholeS, SoundN, SoundK, kids-of, last-of, first-of, rest-of, record-leaf, record-internode}
+use Rattle.demands.specs.Types.{RecordKindLeaf as Leaf, Internode, ReachedLeaf}
+use Rattle.verify.proofs.Places.{alignedK, alignedS}
+use Rattle.demands.proofs.Sound.{SoundN, SoundK, kids-of, last-of, first-of, rest-of, record-leaf, record-internode}
 
 module _ (image : List ℕ) where
   module _ {depth at lo hi next l : ℕ} where
@@ -39,7 +33,7 @@ module _ (image : List ℕ) where
     unfolding HeldN FieldsN leafHead endN
     leaf-record {s = s} g =
         let e : l ≡ endS at s = leaf-place g in
-        record-leaf image l (rw e (end-wholeS s at (g .lies .whole))) (omega (arith, g .lies .start, leaves-fitS s at))
+        record-leaf image l (rw e (alignedS s at (g .lies .whole))) (omega (arith, g .lies .start, leaves-fitS s at))
         (rw (g .holds .1) at (g .fields .0)) (omega (arith, g .lies .before)) (g .holds .0)
 
     pub internode-place : {h : InternodeHead} {k : Kids} → SoundN image depth at lo hi next l (internode h k)
@@ -52,7 +46,7 @@ module _ (image : List ℕ) where
     unfolding HeldN FieldsN internodeHead endN
     internode-record {k = k} g =
         let e : l ≡ endK at k = internode-place g in
-        record-internode image l (rw e (end-wholeK k at (g .lies .whole)))
+        record-internode image l (rw e (alignedK k at (g .lies .whole)))
         (omega (arith, g .lies .start, leaves-fitK k at)) (rw (g .holds .1) at (g .fields .0))
         (omega (arith, g .lies .before)) (g .holds .0)
 

@@ -1,47 +1,18 @@
 -- All that an accepted image says of one subtree, its children or its slots, in one record: what the image holds there,
 -- where it lies, its range and its depth. Proved: a subtree's parts are such again, and its records can be read.
-use mathlib.Core.Path.{_≡_}
-use mathlib.Core.List.{List}
-use mathlib.Core.Bool.{true, false}
-use Prim.Native.Nat.{ℕ, _+_, _%_, _^_, _≤_, _<_}
-use native.Mathlib.Omega.{arith}
-use lib.Dec.{eqb}
-use lib.ListN.{length, getD}
-use borrow.Author.Tests.{le-leb, eq-eqb}
+use Rattle.base.specs.Kit.{_≡_, List, true, false, ℕ, _+_, _%_, _^_, _≤_, _<_, arith, length, getD, le-leb, eq-eqb}
 use Rattle.base.specs.Pick.{pick}
-use Rattle.base.proofs.Choice.{pick-ind}
 use Rattle.node.specs.Version.{isLeaf, atRest}
 use Rattle.node.specs.Layout.{versionAt, childAt, rootOffset}
-use Rattle.layering.specs.Tree.{Fields, LeafHead, InternodeHead, Node, leaf, internode, beyond, Kids, last, more, Slots, none, value, layer, treeOf}
+use Rattle.layering.specs.Tree.{Fields, LeafHead, InternodeHead, Node, leaf, internode, Kids, last, more, Slots, value, layer, treeOf}
 use Rattle.layering.specs.Accepted.{room, endN, endK, endS, InPostOrderN, InPostOrderK, InPostOrderS, ShortPathsN, ShortPathsK, ShortPathsS, AscendN, AscendK, AscendS, InRangeN, InRangeK, InRangeS, firstK, LinkedN, LinkedK, LinkedS, FieldsN, FieldsK, FieldsS, Obeys}
 use Rattle.layering.proofs.Held.{HeldN, HeldK, HeldS, held}
 use Rattle.layering.proofs.Size.{leaves-fitN, leaves-fitK, leaves-fitS}
 use Rattle.layering.proofs.Real.{RealN, RealK, RealS}
 use Rattle.layering.proofs.Pairs.{obeys-real}
+use Rattle.verify.proofs.Places.{room-aligned, alignedN}
 use Rattle.search.specs.Traversal.{readable, recordAt}
-use Rattle.search.specs.declared.traversal.RecordKind.the-variants.{Leaf, Internode}
-
--- records and suffixes take multiples of eight bytes
-room-whole : (s : Fields) → room s % 8 ≡ 0
-unfolding room
-room-whole s = pick-ind (λ (n : ℕ). n % 8 ≡ 0) (eqb (s .keylenx) 64) (λ e. omega arith) (λ e. omega arith)
-
-mutual
-  unfolding endN
-
-  pub end-wholeN : (n : Node) (at : ℕ) → at % 8 ≡ 0 → endN at n % 8 ≡ 0
-  end-wholeN (leaf h s) at e = omega (arith, end-wholeS s at e)
-  end-wholeN (internode h k) at e = omega (arith, end-wholeK k at e)
-  end-wholeN beyond at e = e
-
-  pub end-wholeK : (k : Kids) (at : ℕ) → at % 8 ≡ 0 → endK at k % 8 ≡ 0
-  end-wholeK (last n) at e = end-wholeN n at e
-  end-wholeK (more n x k) at e = end-wholeK k (endN at n) (end-wholeN n at e)
-
-  pub end-wholeS : (s : Slots) (at : ℕ) → at % 8 ≡ 0 → endS at s % 8 ≡ 0
-  end-wholeS none at e = e
-  end-wholeS (value s r) at e = end-wholeS r (at + room s) (omega (arith, room-whole s))
-  end-wholeS (layer s n r) at e = end-wholeS r (endN at n) (end-wholeN n at e)
+use Rattle.demands.specs.Types.{RecordKindLeaf as Leaf, Internode}
 
 module _ (image : List ℕ) where
   -- Some records of a layer at some depth lie from `at` up to `stop`, and before the trailer.
@@ -160,7 +131,7 @@ module _ (image : List ℕ) where
           → SoundK depth (endN at n) x hi next l (i + 1) k
       unfolding endN HeldN InPostOrderN ShortPathsN AscendN InRangeN LinkedN FieldsN RealN
       rest-of {n = n} g = record {
-        lies = rest-lies (endN at n) (g .lies) (omega (arith, leaves-fitN n at)) (end-wholeN n at (g .lies .whole));
+        lies = rest-lies (endN at n) (g .lies) (omega (arith, leaves-fitN n at)) (alignedN n at (g .lies .whole));
         holds = g .holds .3;
         order = g .order .1;
         paths = g .paths .1;
@@ -176,7 +147,7 @@ module _ (image : List ℕ) where
         → SoundS depth (at + room s) lo hi l (i + 1) r
     unfolding endN HeldN InPostOrderN ShortPathsN AscendN InRangeN LinkedN FieldsN RealN
     behind-value {s = s} g = record {
-      lies = rest-lies (at + room s) (g .lies) (omega arith) (omega (arith, g .lies .whole, room-whole s));
+      lies = rest-lies (at + room s) (g .lies) (omega arith) (omega (arith, g .lies .whole, room-aligned s));
       holds = g .holds .3;
       order = g .order .1;
       paths = g .paths;
@@ -211,7 +182,7 @@ module _ (image : List ℕ) where
         → SoundS depth (endN at n) lo hi l (i + 1) r
     unfolding endN HeldN InPostOrderN ShortPathsN AscendN InRangeN LinkedN FieldsN RealN
     behind-layer {n = n} g = record {
-      lies = rest-lies (endN at n) (g .lies) (omega (arith, leaves-fitN n at)) (end-wholeN n at (g .lies .whole));
+      lies = rest-lies (endN at n) (g .lies) (omega (arith, leaves-fitN n at)) (alignedN n at (g .lies .whole));
       holds = g .holds .4;
       order = g .order .1;
       paths = g .paths .1;

@@ -2,14 +2,7 @@
 -- them the walk comes to a place from which on the row, and the rows stacked on the way, have exactly the keys past the
 -- start; and the potential pays for them. The idea: slot by slot the verdict is the test that the row is sieved by
 -- (proofs/Verdict.antt); a layer that is entered hands the rest of the cursor on, and the row behind its slot waits.
-use mathlib.Core.Path.{_≡_, refl, ap, ap₂, sym, _∙_, subst}
-use mathlib.Core.List.{List, _++_, append-assoc}
-use mathlib.Core.Bool.{Bool, true, false}
-use Prim.Native.Nat.{ℕ, zero, suc, _+_, _*_, _-_, _^_, _≤_, _<_}
-use native.Mathlib.Omega.{arith}
-use lib.ListN.{length, take, drop, set, length-append, length-drop, take-append-drop}
-use lib.Seq.{take-at, drop-at, take-all, take-take, length-take-le}
-use borrow.Author.Tests.{lt-leb}
+use Rattle.base.specs.Kit.{_≡_, refl, ap, ap₂, sym, _∙_, subst, List, _++_, append-assoc, Bool, true, false, ℕ, zero, suc, _+_, _*_, _-_, _^_, _≤_, _<_, arith, length, take, drop, set, length-append, length-drop, take-append-drop, take-at, drop-at, take-all, take-take, length-take-le, lt-leb}
 use Rattle.base.specs.Pick.{pick}
 use Rattle.key.specs.Ikey.{ikeyOf, ikeyBytes}
 use Rattle.key.specs.Part.{part}
@@ -17,12 +10,11 @@ use Rattle.key.proofs.Order.{cmp-prefix}
 use Rattle.key.proofs.Bytes.{Bytes, bytes-take, bytes-drop}
 use Rattle.key.proofs.Ikey.{rank, be-take, ikeyBytes-length, ikeyBytes-ikeyOf}
 use Rattle.node.specs.Layout.{valueAt}
-use Rattle.node.specs.declared.permuter.Slot.{Slot}
+use Rattle.demands.specs.Types.{Slot, CursorPlace, ReachedLeaf, StartMode, Above, From, Verdict, Started, StartedAt, StartedEnter, ScanState, ScanStateStart as Start, Continue}
 use Rattle.cursor.specs.CursorKey.{shift, suffixOf, storeIkey}
-use Rattle.cursor.specs.declared.cursor_key.CursorPlace.{CursorPlace}
 use Rattle.layering.specs.Tree.{Node, Slots, none, value, layer, fieldsAt}
 use Rattle.layering.specs.Keys.{Pair, ownBytes}
-use Rattle.layering.specs.Sieve.{sieve, isLess, isNotGreater, isAbove, isFrom}
+use Rattle.layering.specs.Sieve.{sieve, isLess, isNotGreater, isAbove, isFrom, past}
 use Rattle.layering.proofs.Row.{Row, stop, hop, val, sub, keys, weight, Asc}
 use Rattle.layering.proofs.Flat.{flatN, flatS}
 use Rattle.layering.proofs.Held.{HeldN}
@@ -32,18 +24,8 @@ use Rattle.layering.proofs.Walk.{Stack, frame, above, climb}
 use Rattle.search.specs.Traversal.{reach}
 use Rattle.search.specs.Helper.{position, slotIn}
 use Rattle.search.specs.Start.{verdict, byVerdict, startFrom, startPosition}
-use Rattle.search.specs.declared.traversal.Reached.the-variants.{Leaf as ReachedLeaf}
-use Rattle.cursor.specs.declared.range_bound.StartMode.{StartMode}
-use Rattle.cursor.specs.declared.range_bound.StartMode.the-variants.{Above, From}
-use Rattle.search.specs.declared.start.Verdict.{Verdict}
-use Rattle.search.specs.declared.start.Started.{Started}
-use Rattle.search.specs.declared.start.Started.the-variants.{At as StartedAt, Enter as StartedEnter}
-use Rattle.moves.specs.Moves.{standing, kept, begin, startIn, findStart}
-use Rattle.moves.specs.declared.scan_state.ScanState.{ScanState}
-use Rattle.moves.specs.declared.scan_state.ScanState.the-variants.{Start}
-use Rattle.moves.specs.declared.scan_state.Outcome.the-variants.{Continue}
-use Rattle.scan.specs.Machine.{Scan, pushing, entered, stacked, movedBy, moveIn, move}
-use Rattle.demands.specs.Demand.{past}
+use Rattle.moves.specs.Moves.{standAt, standing, kept, begin, startIn, findStart, passIn}
+use Rattle.scan.specs.Machine.{Scan, pushing, entered, movedBy, before, moveIn, move}
 use Rattle.demands.proofs.Leaf.{usedIn, ikeyIn, LeafOk, past-slot}
 use Rattle.demands.proofs.Moves.{dup-off}
 use Rattle.demands.proofs.Relation.{IsSub, At, Core, Standing, plain, Nexts}
@@ -347,16 +329,7 @@ module _ (image : List ℕ) (mode : StartMode) (X z : List ℕ) (wide : Wide mod
   -- The walk in the layer whose root is q, entered from the leaf at l.
   unfoldable pub entering : Scan → ℕ → ℕ → Scan
   entering s l q = record {
-    ctx = record {
-      root = q;
-      leaf = l;
-      position = s .ctx .position;
-      cursor = shift (s .ctx .cursor) (s .buf);
-      depth = s .ctx .depth + 1;
-      state = Start mode;
-      dup = s .ctx .dup;
-      last = s .ctx .last;
-    };
+    ctx = standAt (entered q (s .ctx)) l (s .ctx .position) (shift (s .ctx .cursor) (s .buf)) (Start mode) (s .ctx .dup) (s .ctx .last);
     buf = storeIkey (s .buf) (s .ctx .cursor .offset) (s .ctx .cursor .ikey);
     stack = set (s .stack) (s .ctx .depth) (record { root = s .ctx .root; leaf = l });
   }
@@ -367,14 +340,14 @@ module _ (image : List ℕ) (mode : StartMode) (X z : List ℕ) (wide : Wide mod
         → reach image (s .ctx .cursor .ikey) (s .ctx .root) ≡ ReachedLeaf l
         → startPosition mode image l (s .ctx .cursor) (s .buf) ≡ StartedAt (position i)
         → move image kind bound s ≡ record { outcome = Continue; scan = arrived s l i (s .ctx .dup) }
-    unfolding move moveIn movedBy pushing findStart startIn begin kept standing arrived
+    unfolding move moveIn before passIn movedBy pushing pick findStart startIn begin kept standing arrived
     starts s l i e h g = ap (λ (z : ScanState). moveIn z image kind bound s) e ∙ rw (h, g)
 
     enters : (s : Scan) (l : ℕ) (t : Slot) → s .ctx .state ≡ Start mode
         → reach image (s .ctx .cursor .ikey) (s .ctx .root) ≡ ReachedLeaf l
         → startPosition mode image l (s .ctx .cursor) (s .buf) ≡ StartedEnter t
         → move image kind bound s ≡ record { outcome = Continue; scan = entering s l (valueAt image l t) }
-    unfolding move moveIn movedBy pushing entered stacked findStart startIn begin entering
+    unfolding move moveIn before passIn movedBy pushing pick findStart startIn begin entering
     enters s l t e h g = ap (λ (z : ScanState). moveIn z image kind bound s) e ∙ rw (h, g)
 
     -- WHERE THE START MOVES COME TO from s, in a layer whose row is `row`: `steps` of them enter a layer, and the last
@@ -429,7 +402,7 @@ module _ (image : List ℕ) (mode : StartMode) (X z : List ℕ) (wide : Wide mod
           subst (λ (r : Row). Begins mode X p y (g .whole) (g .bytes) image (s .ctx .depth) leaf-at r
           (startPosition mode image leaf-at (s .ctx .cursor) (s .buf))) (sym (landed .is))
           (begins mode X p y (g .whole) (g .bytes) image (s .ctx .depth) leaf-at (landed .ok) (s .ctx .cursor) (s .buf)
-          (g .ikey) (g .len) rest-is (subst (Wide mode) whole-length wide) (g .core .fit .offset) (landed .behind)
+          (g .ikey) (g .len) rest-is (subst (Wide mode) whole-length wide) (g .core .fit .place) (landed .behind)
           (landed .next) (landed .slots) (usedIn image leaf-at) (a .0) (landed .sound) (omega arith)
           (subst (Asc (a .0)) (landed .is) (a .1)) (subst (NextHop (ikeyOf y)) (landed .is) h))
 
@@ -484,7 +457,7 @@ module _ (image : List ℕ) (mode : StartMode) (X z : List ℕ) (wide : Wide mod
             state = refl;
             core =
                 core-down image s inside p (f .k) (f .q) leaf-at j (f .behind) st (g .core) (landed .ok) (f .slot) (f .at)
-                (f .asc) refl refl (omega (arith, g .core .fit .fits, g .len, f .long)) (g .core .fit .place)
+                (f .asc) refl refl (omega (arith, g .core .fit .within, g .len, f .long)) (g .core .fit .position)
                 (ap (storeIkey (s .buf) (s .ctx .cursor .offset)) (g .ikey ∙ sym (f .own))) refl;
             whole =
                 g .whole ∙ ap (λ (q : List ℕ). p ++ q) (sym (take-append-drop 8 y) ∙ ap (λ (q : List ℕ). q ++ drop 8 y) (sym k-own))

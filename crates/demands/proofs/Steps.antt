@@ -1,29 +1,19 @@
 -- Steps of a walk, and every list of them. Proved: a step lent the walk's image says the head of what is left, and one
 -- lent another length changes nothing; hence what a list of steps says, and that its moves are no more than the
 -- potential. And one loop of moves counts as many keys as are left.
-use mathlib.Core.Path.{_≡_, refl, ap, sym, _∙_, subst}
-use mathlib.Core.List.{List, [], _∷_}
-use mathlib.Core.Bool.{Bool, true, false, not, true≢false, false≢true}
-use mathlib.Core.Logic.{inl, inr}
-use Prim.Native.Nat.{ℕ, _+_, _*_, _≤_}
-use native.Mathlib.Omega.{arith}
-use lib.ListN.{length, take}
-use borrow.Author.Tests.{le-leb, eq-eqb, ne-eqb}
+use Rattle.base.specs.Kit.{_≡_, refl, ap, sym, _∙_, subst, List, [], _∷_, Bool, true, false, not, inl, inr, ℕ, _+_, _*_, _≤_, arith, length, take, le-leb, eq-eqb, ne-eqb}
 use Rattle.base.specs.Pick.{pick}
-use Rattle.base.proofs.Choice.{pick-ind}
 use Rattle.cursor.specs.RangeBound.{contains}
-use Rattle.cursor.specs.declared.range_bound.RangeBound.{RangeBound}
+use Rattle.demands.specs.Types.{RangeBound, Ended, Walk, Nothing, Declined, Stepped}
 use Rattle.layering.proofs.Sieve.{front}
 use Rattle.layering.proofs.Walk.{Conf, over, rest, left, pot}
-use Rattle.scan.specs.Machine.{Ran, run, walkOk, scanState, lastIkey, isEnded, scanOf, walkOf, stepped, finished, step}
-use Rattle.scan.specs.Loop.{keysIn, keysAhead, keysLeft}
-use Rattle.scan.specs.declared.scan_state.WalkState.the-variants.{Ended}
-use Rattle.scan.specs.declared.scan_state.Walk.{Walk}
-use Rattle.scan.specs.declared.scan_state.Answer.the-variants.{Nothing, Declined}
-use Rattle.scan.specs.declared.scan_state.Stepped.{Stepped}
+use Rattle.moves.specs.Moves.{InRange}
+use Rattle.walk.specs.Walk.{walkOk}
+use Rattle.scan.specs.Machine.{Ran, run, isEnded, ctxOf, scanOf, finished, advance, step}
+use Rattle.scan.specs.Loop.{runBy, allBy, keysAhead, keysLeft}
 use Rattle.lent.proofs.Same.{step-as}
 use Rattle.demands.specs.Demand.{Call, steps, Lent, Said, handsOut, declines, saidWith, said, movesOf, headSaid, tailOf, due}
-use Rattle.demands.proofs.Relation.{Fit, resumed, Rep}
+use Rattle.demands.proofs.Relation.{resumed, Rep}
 use Rattle.demands.proofs.Run.{Came, out, end, comes}
 use Rattle.demands.proofs.Tally.{counts}
 
@@ -47,7 +37,7 @@ module _ (image : List ℕ) (B : RangeBound) where
   pub record Walks (w : Walk) (c : Conf) : Type 0 where
     pub same-length : w .«image_len» ≡ length image
     pub same-bound : w .bound ≡ B
-    pub fit : Fit (scanOf w)
+    pub fit : InRange (w .depth) (ctxOf w)
     pub stage : Stage w c
 
   -- What a step of it comes to: the head of what was left is said and its tail is left, and the potential pays for the
@@ -61,14 +51,14 @@ module _ (image : List ℕ) (B : RangeBound) where
 
   module _ (kind-ok : B .kind ≤ 2) (len-ok : B .len ≤ 256) where
     walk-ok : (w : Walk) (c : Conf) → Walks w c → walkOk w (length image) ≡ true
-    unfolding walkOk scanOf
+    unfolding walkOk
     walk-ok w c h =
         rw (
           eq-eqb (w .«image_len») (length image) (h .same-length),
           le-leb (w .depth) 31 (h .fit .deep),
-          eq-eqb (w .cursor .offset) (8 * w .depth) (h .fit .offset),
-          le-leb (w .cursor .offset + w .cursor .len) 256 (h .fit .fits),
-          le-leb (w .position .0) 15 (h .fit .place),
+          eq-eqb (w .cursor .offset) (8 * w .depth) (h .fit .place),
+          le-leb (w .cursor .offset + w .cursor .len) 256 (h .fit .within),
+          le-leb (w .position .0) 15 (h .fit .position),
           le-leb (w .bound .kind) 2 (subst (λ (z : RangeBound). z .kind ≤ 2) (sym (h .same-bound)) kind-ok),
           le-leb (w .bound .len) 256 (subst (λ (z : RangeBound). z .len ≤ 256) (sym (h .same-bound)) len-ok),
         )
@@ -76,14 +66,13 @@ module _ (image : List ℕ) (B : RangeBound) where
     -- a run is over
     finishes : (w : Walk) (c : Conf) → w .«image_len» ≡ length image → w .bound ≡ B → {r : Ran}
         → Came image (B .kind) (take (B .len) (B .key)) c 0 r → Paid c (finished w r)
-    unfolding finished stepped saidWith headSaid tailOf walkOf scanOf scanState lastIkey isEnded resumed left rest front
-        pot
+    unfolding finished saidWith headSaid tailOf scanOf resumed left rest front pot
     finishes w c a b (out x c′ n s e h fit rep key) = record {
       to = c′;
       walks = record {
         same-length = a;
         same-bound = b;
-        fit = record { deep = fit .deep; offset = fit .offset; fits = fit .fits; place = fit .place };
+        fit = record { place = fit .place; deep = fit .deep; within = fit .within; position = fit .position };
         stage = going refl rep;
       };
       head = ap (λ (t : List ℕ). handsOut (record { key = t; value = x .value })) (sym key) ∙ ap headSaid (sym e);
@@ -95,7 +84,7 @@ module _ (image : List ℕ) (B : RangeBound) where
       walks = record {
         same-length = a;
         same-bound = b;
-        fit = record { deep = fit .deep; offset = fit .offset; fits = fit .fits; place = fit .place };
+        fit = record { place = fit .place; deep = fit .deep; within = fit .within; position = fit .position };
         stage = ended refl;
       };
       head = ap headSaid (sym e);
@@ -104,26 +93,22 @@ module _ (image : List ℕ) (B : RangeBound) where
     }
 
     -- A STEP
-    pays-in : (w : Walk) (c : Conf) → w .«image_len» ≡ length image → w .bound ≡ B → Fit (scanOf w)
+    pays-in : (w : Walk) (c : Conf) → w .«image_len» ≡ length image → w .bound ≡ B → InRange (w .depth) (ctxOf w)
         → pot c ≤ length image → Stage w c
-        → Paid c (pick (isEnded (w .state)) (record { answer = Nothing; moves = 0; walk = w })
-        (finished w (run image (w .bound .kind) (take (w .bound .len) (w .bound .key)) (length image) 0
-        (scanOf w))))
-    unfolding saidWith headSaid tailOf left rest front pot isEnded
+        → Paid c (pick (isEnded (w .state)) (record { answer = Nothing; moves = 0; walk = w }) (advance w image))
+    unfolding advance saidWith headSaid tailOf left rest front pot pick
     pays-in w c a b fit k (ended e) =
-        pick-ind (Paid over) (isEnded (w .state))
-        (λ t. record {
+        rw (ap isEnded e)
+        (record {
           to = over;
           walks = record { same-length = a; same-bound = b; fit = fit; stage = ended e };
           head = refl;
           tail = refl;
           cost = omega arith;
         })
-        (λ t. absurd (true≢false (sym (ap isEnded e) ∙ t)))
     pays-in w c a b fit k (going e rep) =
-        pick-ind (Paid c) (isEnded (w .state)) (λ t. absurd (false≢true (sym e ∙ t)))
-        (λ t.
-        subst
+        rw e
+        (subst
         (λ (z : RangeBound). Paid c
         (finished w (run image (z .kind) (take (z .len) (z .key)) (length image) 0 (scanOf w)))) (sym b)
         (finishes w c a b (comes image (B .kind) (take (B .len) (B .key)) (length image) 0 (scanOf w) c rep k)))
@@ -135,14 +120,14 @@ module _ (image : List ℕ) (B : RangeBound) where
     -- ALL MOVES IN ONE LOOP: as many keys as are left
     keys-in : (w : Walk) (c : Conf) → w .bound ≡ B → pot c ≤ length image → Stage w c
         → pick (not (isEnded (w .state))) (keysAhead w image) 0 ≡ length (left (admitted B) c)
-    unfolding keysAhead left rest front pick isEnded
+    unfolding keysAhead allBy left rest front pick
     keys-in w c b k (ended e) = rw e
     keys-in w c b k (going e rep) =
         rw e
         (subst
-        (λ (z : RangeBound). keysIn image (z .kind) (take (z .len) (z .key)) (length image) (scanOf w)
+        (λ (z : RangeBound). runBy true image (z .kind) (take (z .len) (z .key)) (length image) 0 0 (scanOf w) .keys
         ≡ length (left (admitted B) c)) (sym b)
-        (counts image (B .kind) (take (B .len) (B .key)) (length image) (scanOf w) c rep k))
+        (omega (arith, counts image (B .kind) (take (B .len) (B .key)) (length image) 0 0 (scanOf w) c rep k)))
 
     pub keys-left : (w : Walk) (c : Conf) → Walks w c → pot c ≤ length image
         → keysLeft w image ≡ length (left (admitted B) c)

@@ -1,54 +1,29 @@
 -- What Start makes of a slot of a leaf in order, whatever the cursor's length. Proved: a value slot is passed over where
 -- its key is not past the start, and stood at where it is; a layer slot is passed over, stood at or entered by where its
 -- eight bytes lie. y is what the cursor has left in the layer.
-use mathlib.Core.Path.{_≡_, ap, sym, _∙_}
-use mathlib.Core.List.{List, _++_}
-use mathlib.Core.Bool.{true, false}
-use mathlib.Core.Logic.{_⊎_, inl, inr}
-use Prim.Native.Nat.{ℕ, _+_, _*_, _≤_, _<_}
-use native.Mathlib.Omega.{arith}
-use lib.Dec.{leb, ltb, eqb}
-use lib.ListN.{length, drop}
-use lib.Seq.{drop-at}
-use borrow.Author.Tests.{le-leb, lt-leb, le-ltb, lt-ltb, eq-eqb, ltb-true, ltb-false}
+use Rattle.base.specs.Kit.{_≡_, ap, sym, _∙_, List, _++_, true, false, _⊎_, inl, inr, ℕ, _+_, _*_, _≤_, _<_, arith, leb, ltb, eqb, length, drop, drop-at, le-leb, lt-leb, le-ltb, lt-ltb, eq-eqb, ltb-true, ltb-false}
 use Rattle.base.specs.Pick.{pick}
 use Rattle.base.proofs.Choice.{pick-ind}
 use Rattle.key.specs.Order.{byteOrder, then}
 use Rattle.key.specs.Ikey.{ikeyOf, ikeyBytes}
-use Rattle.key.specs.declared.Ordering.{Ordering}
-use Rattle.key.specs.declared.Ordering.the-variants.{Less, Equal, Greater}
+use Rattle.demands.specs.Types.{Ordering, OrderingEqual as Equal, CursorPlace, StartMode, Above, From, Verdict, VerdictPass as Pass, Stand, VerdictEnter as Enter, Fault}
 use Rattle.key.proofs.Order.{Cmp, is-lt, is-eq, is-gt, cmp, CmpB, b-lt, b-eq, b-gt, cmpb, lex-cmp, lex-gt, cmp-refl}
 use Rattle.key.proofs.Bytes.{Bytes}
 use Rattle.key.proofs.Ikey.{rank, rank-lt, rank-eq-short, rank-eq-long, ikeyBytes-length}
 use Rattle.cursor.specs.CursorKey.{hasSuffix, suffixOf}
-use Rattle.cursor.specs.declared.cursor_key.CursorPlace.{CursorPlace}
 use Rattle.layering.specs.Tree.{Fields, fieldsAt}
 use Rattle.layering.specs.Keys.{ownBytes}
-use Rattle.layering.specs.Sieve.{isLess, isNotGreater, isAbove, isFrom}
+use Rattle.layering.proofs.Asked.{past-greater, past-less}
+use Rattle.layering.specs.Sieve.{isLess, isNotGreater, isAbove, isFrom, past}
 use Rattle.layering.specs.Accepted.{EndsHere, HasSuffix}
 use Rattle.layering.proofs.Part.{slotRank, own-bytes, own-rank}
 use Rattle.layering.proofs.Real.{Real}
 use Rattle.search.specs.Helper.{slotIn, byOrder, suffixBytes}
 use Rattle.search.specs.Start.{atEqual, shortVerdict, suffixVerdict, longVerdict, verdict}
-use Rattle.cursor.specs.declared.range_bound.StartMode.{StartMode}
-use Rattle.cursor.specs.declared.range_bound.StartMode.the-variants.{Above, From}
-use Rattle.search.specs.declared.start.Verdict.{Verdict}
-use Rattle.search.specs.declared.start.Verdict.the-variants.{Pass, Stand, Enter, Fault}
-use Rattle.demands.specs.Demand.{past}
 use Rattle.demands.proofs.Leaf.{usedIn, ikeyIn, keylenxIn, LeafOk}
 
 -- A START by byte order.
 module _ (y a : List ℕ) where
-  pub past-greater : (mode : StartMode) → byteOrder y a ≡ Greater → past mode y a ≡ false
-  unfolding past isAbove isFrom isLess isNotGreater
-  past-greater Above e = rw e
-  past-greater From e = rw e
-
-  pub past-less : (mode : StartMode) → byteOrder y a ≡ Less → past mode y a ≡ true
-  unfolding past isAbove isFrom isLess isNotGreater
-  past-less Above e = rw e
-  past-less From e = rw e
-
   -- what a start's verdict on a value slot with the key a says
   pub data Says (mode : StartMode) : Verdict → Type 0 where
     passes : past mode y a ≡ false → Says mode Pass
@@ -62,17 +37,17 @@ module _ (y a : List ℕ) where
   by-order : (mode : StartMode) (u v : List ℕ) {o : Ordering} → CmpB u v o → byteOrder y a ≡ byteOrder v u
       → rank y ≤ rank a → Says mode (byOrder o Pass (atEqual mode) Stand)
   unfolding byOrder
-  by-order mode u v (b-lt l) e h = passes (past-greater mode (e ∙ lex-gt l))
+  by-order mode u v (b-lt l) e h = passes (past-greater y a mode (e ∙ lex-gt l))
   by-order mode u v (b-eq d) e h = at-equal mode (e ∙ ap (byteOrder v) d ∙ cmp-refl v) h
-  by-order mode u v (b-gt l) e h = stands (past-less mode (e ∙ lex-cmp l)) h
+  by-order mode u v (b-gt l) e h = stands (past-less y a mode (e ∙ lex-cmp l)) h
 
   -- ranks that differ decide
   module _ (by : Bytes y) (ba : Bytes a) where
     pub past-low : (mode : StartMode) → rank a < rank y → past mode y a ≡ false
-    past-low mode h = past-greater mode (lex-gt (rank-lt a y ba by h))
+    past-low mode h = past-greater y a mode (lex-gt (rank-lt a y ba by h))
 
     pub past-high : (mode : StartMode) → rank y < rank a → past mode y a ≡ true
-    past-high mode h = past-less mode (lex-cmp (rank-lt y a by ba h))
+    past-high mode h = past-less y a mode (lex-cmp (rank-lt y a by ba h))
 
     low : (mode : StartMode) → rank a < rank y → Says mode Pass
     low mode h = passes (past-low mode h)

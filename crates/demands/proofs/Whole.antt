@@ -1,14 +1,7 @@
 -- From the placing to the row. Proved: what a placing that was taken says of its arguments; that the walk's bound
 -- admits what its argument does; and that what is left of a fresh walk is the row that demand 3 speaks of. Hence every
 -- list of steps, and the count of one loop of moves.
-use mathlib.Core.Path.{_≡_, refl, ap, sym, _∙_}
-use mathlib.Core.List.{List, []}
-use mathlib.Core.Bool.{Bool, true, false, not}
-use Prim.Native.Nat.{ℕ, _+_, _*_, _%_, _≤_, _<_}
-use native.Mathlib.Omega.{arith}
-use lib.Dec.{ltb, eqb}
-use lib.ListN.{length, take, getD, replicate}
-use borrow.Author.Tests.{ltb-false, eqb-true, eqb-false, not-true, not-false, le-ltb, eq-eqb, le-leb}
+use Rattle.base.specs.Kit.{_≡_, refl, ap, sym, _∙_, List, [], Bool, true, false, not, ℕ, _+_, _*_, _%_, _≤_, _<_, arith, ltb, eqb, length, take, getD, replicate, ltb-false, eqb-true, eqb-false, not-true, not-false, le-ltb, eq-eqb, le-leb}
 use Rattle.base.specs.Pick.{pick}
 use Rattle.base.proofs.Choice.{pick-ind}
 use Rattle.key.specs.Part.{padded}
@@ -18,26 +11,23 @@ use Rattle.node.specs.Layout.{statedLength, edition}
 use Rattle.node.specs.Heading.{headingFault, lengthOk}
 use Rattle.cursor.specs.CursorKey.{fromSlice}
 use Rattle.cursor.specs.RangeBound.{contains, boundOf}
-use Rattle.cursor.specs.declared.range_bound.RangeBound.{RangeBound}
+use Rattle.demands.specs.Types.{RangeBound, StartMode, Above, From, WalkState, Placed}
 use Rattle.layering.specs.Tree.{treeOf}
 use Rattle.layering.specs.Keys.{livePairs, leavesN, valuesN, layersN}
 use Rattle.layering.specs.Accepted.{Obeys}
-use Rattle.layering.specs.Ascending.{Ascending}
-use Rattle.layering.specs.Sieve.{sieve}
+use Rattle.layering.specs.Sieve.{sieve, past, rowOf}
 use Rattle.layering.proofs.Row.{stop, weight}
 use Rattle.layering.proofs.Flat.{weighsN}
 use Rattle.layering.proofs.Size.{moves-fit}
-use Rattle.layering.proofs.Pairs.{row-pairs, pairs-ascend}
-use Rattle.layering.proofs.Sieve.{front, front-sieve, ascending-sieve}
+use Rattle.layering.proofs.Pairs.{row-pairs}
+use Rattle.layering.proofs.Sieve.{front, front-sieve}
+use Rattle.layering.proofs.Asked.{past-ascends}
 use Rattle.layering.proofs.Bound.{contains-closed}
 use Rattle.layering.proofs.Walk.{Conf, seek, rest, left, pot}
-use Rattle.scan.specs.Machine.{shortState, startState, placeFault, freshWalk, place, isEnded, scanOf}
+use Rattle.walk.specs.Placing.{shortState, startState, placeFault, freshWalk, place}
+use Rattle.scan.specs.Machine.{isEnded, scanOf}
 use Rattle.scan.specs.Loop.{keysLeft}
-use Rattle.cursor.specs.declared.range_bound.StartMode.{StartMode}
-use Rattle.cursor.specs.declared.range_bound.StartMode.the-variants.{Above, From}
-use Rattle.scan.specs.declared.scan_state.WalkState.{WalkState}
-use Rattle.scan.specs.declared.scan_state.Placed.{Placed}
-use Rattle.demands.specs.Demand.{past, rowOf, Call, steps, Lent, said, movesOf, due}
+use Rattle.demands.specs.Demand.{Call, steps, Lent, said, movesOf, due}
 use Rattle.demands.proofs.Begin.{Begun, begin-at}
 use Rattle.demands.proofs.Steps.{admitted, Walks, going, all-steps, keys-left}
 
@@ -117,7 +107,7 @@ module _ (kind : ℕ) (bound : List ℕ) where
 
 -- a walk that was placed is not ended
 not-ended : (mode : StartMode) (n : ℕ) → isEnded (startState mode n) ≡ false
-unfolding isEnded startState shortState
+unfolding startState
 not-ended mode n =
     pick-ind (λ (s : WalkState). isEnded s ≡ false) (ltb 8 n) (λ t. refl) (λ t. go mode)
   where
@@ -131,15 +121,6 @@ limit image = leavesN (treeOf image) + valuesN (treeOf image) + 4 * layersN (tre
 
 module _ (image : List ℕ) (b : (i : ℕ) → getD image i 0 < 256) (o : Obeys image) (mode : StartMode)
     (cursor : List ℕ) where
-  -- what lies past the start ascends
-  past-ascends : Ascending (sieve (past mode cursor) (livePairs image))
-  past-ascends = ascending-sieve (past mode cursor) (livePairs image) (pairs-ascend image b o)
-
-  pub row-in-order : (kind : ℕ) (bound : List ℕ) → Ascending (rowOf image mode cursor kind bound)
-  unfolding rowOf
-  row-in-order kind bound =
-      ascending-sieve (contains kind bound) (sieve (past mode cursor) (livePairs image)) past-ascends
-
   module _ (bc : (i : ℕ) → getD cursor i 0 < 256) (kind : ℕ) (bound : List ℕ) (lim : Limits cursor kind bound) where
     begun : Begun image mode cursor (boundOf kind bound .kind)
         (take (boundOf kind bound .len) (boundOf kind bound .key)) (scanOf (freshWalk image mode cursor kind bound))
@@ -153,11 +134,11 @@ module _ (image : List ℕ) (b : (i : ℕ) → getD image i 0 < 256) (o : Obeys 
 
     -- a fresh walk stands before its row
     walks : Walks image (boundOf kind bound) (freshWalk image mode cursor kind bound) stage
-    unfolding freshWalk scanOf fromSlice stage
+    unfolding freshWalk fromSlice stage
     walks = record {
       same-length = refl;
       same-bound = refl;
-      fit = record { deep = omega arith; offset = refl; fits = omega (arith, lim .cursor-fits); place = omega arith };
+      fit = record { place = refl; deep = omega arith; within = omega (arith, lim .cursor-fits); position = omega arith };
       stage = going (not-ended mode (length cursor)) (begun .rep);
     }
 
@@ -169,7 +150,7 @@ module _ (image : List ℕ) (b : (i : ℕ) → getD image i 0 < 256) (o : Obeys 
         (sym (begun .left) ∙ ap (sieve (past mode cursor)) (row-pairs (treeOf image) []))
         ∙ ap (λ (t : List ℕ → Bool). front t (sieve (past mode cursor) (livePairs image))) (bound-admits kind bound)
         ∙ front-sieve (contains kind bound) (contains-closed kind bound) (sieve (past mode cursor) (livePairs image))
-        past-ascends
+        (past-ascends image b o mode cursor)
 
     -- its potential
     few-moves : pot stage ≤ limit image

@@ -1,23 +1,10 @@
 -- What demand 3 speaks of: a list of steps, what they say, and the row that they hand out (01: "Demand 3 is one claim about its
 -- whole list, not one for each step").
-use mathlib.Core.Bool.{Bool}
-use mathlib.Core.List.{List, [], _∷_}
-use mathlib.Core.Logic.{_⊎_}
-use mathlib.Core.Path.{_≡_}
-use Prim.Native.Nat.{ℕ, _+_, _*_}
-use lib.Dec.{eqb}
-use lib.ListN.{length, take}
+use Rattle.base.specs.Kit.{List, [], _∷_, _⊎_, _≡_, ℕ, _+_, eqb, length, take}
 use Rattle.base.specs.Pick.{pick}
-use Rattle.cursor.specs.RangeBound.{contains}
-use Rattle.layering.specs.Keys.{Pair, livePairs}
-use Rattle.layering.specs.Sieve.{sieve, isAbove, isFrom}
+use Rattle.layering.specs.Keys.{Pair}
 use Rattle.lent.specs.Form.{Form, stepAs}
-use Rattle.cursor.specs.declared.range_bound.StartMode.{StartMode}
-use Rattle.cursor.specs.declared.range_bound.StartMode.the-variants.{Above, From}
-use Rattle.scan.specs.declared.scan_state.Walk.{Walk}
-use Rattle.scan.specs.declared.scan_state.Answer.{Answer}
-use Rattle.scan.specs.declared.scan_state.Answer.the-variants.{Key, Nothing, Declined}
-use Rattle.scan.specs.declared.scan_state.Stepped.{Stepped}
+use Rattle.demands.specs.Types.{Walk, Answer, Key, Nothing, Declined, Stepped}
 
 -- A CALL of the step: its form, by value or with the walk lent, and the bytes that it is lent for the image.
 pub record Call : Type 0 where
@@ -52,14 +39,6 @@ said (s ∷ rest) = saidWith (s .answer) s ∷ said rest
 unfoldable pub movesOf : List Stepped → ℕ
 movesOf [] = 0
 movesOf (s ∷ rest) = s .moves + movesOf rest
-
--- THE ROW: "exactly the live keys past the start that the bound admits, each once, ascending, with values".
-unfoldable pub past : StartMode → List ℕ → List ℕ → Bool
-past Above cursor key = isAbove cursor key
-past From cursor key = isFrom cursor key
-
-unfoldable pub rowOf : List ℕ → StartMode → List ℕ → ℕ → List ℕ → List Pair
-rowOf image mode cursor kind bound = sieve (contains kind bound) (sieve (past mode cursor) (livePairs image))
 
 -- What the steps are to say: "foreign-length steps are declined with 21 and change nothing; what the n others hand out is the
 -- first n of one row .. then none without end".

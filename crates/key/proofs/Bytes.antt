@@ -1,26 +1,18 @@
 -- Byte strings: what is made of bytes by joining, cutting and filling, and what is written out of a number, has bytes
 -- only. Assumes nothing.
-use mathlib.Core.List.{List, [], _∷_, _++_}
-use Prim.Native.Nat.{ℕ, zero, suc, _-_, _<_}
-use native.Mathlib.Omega.{arith}
-use lib.ListN.{length, getD, take, drop, replicate}
+use Rattle.base.specs.Kit.{List, [], _∷_, _++_, ℕ, zero, suc, _<_, arith, getD, take, drop}
 use Rattle.key.specs.Ikey.{digits, ikeyBytes}
-use Rattle.key.specs.Part.{part, padded}
+use Rattle.key.specs.Part.{part}
 
 -- Every element is a byte.
 abbrev pub Bytes : List ℕ → Type 0
 Bytes [] = Unit {0}
 Bytes (a ∷ s) = (a < 256) × Bytes s
 
--- the form in which a function's proof is told it, and back
+-- the form in which a function's proof is told it
 pub bytes-of : (s : List ℕ) → ((i : ℕ) → getD s i 0 < 256) → Bytes s
 bytes-of [] h = tt
 bytes-of (a ∷ s) h = (h 0, bytes-of s (λ i. h (suc i)))
-
-pub bytes-at : (s : List ℕ) → Bytes s → (i : ℕ) → getD s i 0 < 256
-bytes-at [] b i = omega arith
-bytes-at (a ∷ s) b zero = b .0
-bytes-at (a ∷ s) b (suc i) = bytes-at s (b .1) i
 
 pub bytes-append : (s t : List ℕ) → Bytes s → Bytes t → Bytes (s ++ t)
 bytes-append [] t bs bt = bt
@@ -39,14 +31,6 @@ bytes-drop (suc n) (a ∷ s) b = bytes-drop n s (b .1)
 pub bytes-part : (s : List ℕ) (i n : ℕ) → Bytes s → Bytes (part s i n)
 unfolding part
 bytes-part s i n b = bytes-take n (drop i s) (bytes-drop i s b)
-
-pub bytes-zeros : (n : ℕ) → Bytes (replicate n 0)
-bytes-zeros zero = tt
-bytes-zeros (suc n) = (omega arith, bytes-zeros n)
-
-pub bytes-padded : (s : List ℕ) → Bytes s → Bytes (padded s)
-unfolding padded
-bytes-padded s b = bytes-append s (replicate (256 - length s) 0) b (bytes-zeros (256 - length s))
 
 pub digits-bytes : (n x : ℕ) → Bytes (digits n x)
 unfolding digits

@@ -1,13 +1,7 @@
 -- Laws of the ikey. `split` says what the first n bytes, as a number, tell of the byte order of two strings; `rank`
 -- puts ikey and length into one number, so that comparing (ikey, length) is byte order by plain arithmetic. And
 -- `be` and `digits` are inverse to one another. Assumes nothing.
-use mathlib.Core.Path.{_≡_, refl, ap, sym, _∙_}
-use mathlib.Core.List.{List, [], _∷_, _++_}
-use Prim.Native.Nat.{ℕ, zero, suc, _+_, _*_, _/_, _%_, _^_, _-_, _≤_, _<_, min}
-use native.Mathlib.Nat.{mul-le-mul-right, one-le-pow, pow-suc, div-add-mod', div-div-eq-div-mul, mul-add-div-right, div-eq-of-lt, mod-eq-of-lt}
-use native.Mathlib.Omega.{arith}
-use lib.ListN.{length, take, drop, getD, replicate, take-append-drop, length-append, length-replicate}
-use lib.Seq.{take-at, take-all, take-append-seam}
+use Rattle.base.specs.Kit.{_≡_, refl, ap, sym, _∙_, List, [], _∷_, _++_, ℕ, zero, suc, _+_, _*_, _/_, _%_, _^_, _-_, _≤_, _<_, min, mul-le-mul-right, one-le-pow, pow-suc, pow-succ', mul-add-div-right, div-eq-of-lt, mod-eq-of-lt, arith, mod-mul, length, take, drop, getD, replicate, take-append-drop, length-append, length-replicate, take-at, take-all, take-append-seam}
 use Rattle.key.specs.Order.{byteOrder}
 use Rattle.key.specs.declared.Ordering.{Ordering}
 use Rattle.key.specs.Ikey.{be, ikeyOf, digits, ikeyBytes}
@@ -24,10 +18,6 @@ unfolding be
 be-lt zero s b = omega arith
 be-lt (suc n) [] b = omega (arith, be-lt n [] tt)
 be-lt (suc n) (a ∷ s) b = omega (arith, be-lt n s (b .1), mul-le-mul-right (256 ^ n) (b .0))
-
-pub ikeyOf-lt : (s : List ℕ) → Bytes s → ikeyOf s < 2 ^ 64
-unfolding ikeyOf
-ikeyOf-lt s b = be-lt 8 s b
 
 -- the number looks at the first n bytes only
 be-of-take : (n : ℕ) (s : List ℕ) → be n (take n s) ≡ be n s
@@ -92,43 +82,32 @@ split (suc n) (a ∷ s) (b ∷ t) bs bt = go (cmp a b) (split n s t (bs .1) (bt 
 unfoldable pub rank : List ℕ → ℕ
 rank s = ikeyOf s * 16 + min (length s) 9
 
--- Where the ranks differ they decide.
-pub rank-lt : (s t : List ℕ) → Bytes s → Bytes t → rank s < rank t → Lex s t
+-- Where the ranks differ they decide; where they agree, the two are one byte string, or both go on and the rests decide.
+by-rank : {A : Type 0} (s t : List ℕ) → Bytes s → Bytes t → (rank s < rank t → Lex s t → A) → (rank t < rank s → A)
+    → (s ≡ t → length s ≤ 8 → A) → (rank s ≡ rank t → take 8 s ≡ take 8 t → 8 < length s → A) → A
 unfolding rank ikeyOf
-rank-lt s t bs bt h = go (split 8 s t bs bt)
+by-rank {A} s t bs bt lower higher equal both = go (split 8 s t bs bt)
   where
-    go : Split 8 s t → Lex s t
-    go (below e l) = l
-    go (above e l) = absurd (omega arith)
-    go (shorter e k m l) = l
-    go (longer e k m l) = absurd (omega arith)
-    go (same e m) = absurd (omega (arith, ap rank e))
-    go (deeper e k m) = absurd (omega (arith, be-take 8 s t e))
+    go : Split 8 s t → A
+    go (below e l) = lower (omega arith) l
+    go (above e l) = higher (omega arith)
+    go (shorter e k m l) = lower (omega arith) l
+    go (longer e k m l) = higher (omega arith)
+    go (same e m) = equal e m
+    go (deeper e k m) = both (omega (arith, be-take 8 s t e)) e k
 
--- Where they agree, the two are one byte string, or both go on and the rests decide.
+pub rank-lt : (s t : List ℕ) → Bytes s → Bytes t → rank s < rank t → Lex s t
+rank-lt s t bs bt h =
+    by-rank s t bs bt (λ g l. l) (λ g. absurd (omega arith)) (λ e m. absurd (omega (arith, ap rank e))) (λ g e k. absurd (omega arith))
+
 pub rank-eq-short : (s t : List ℕ) → Bytes s → Bytes t → rank s ≡ rank t → length s ≤ 8 → s ≡ t
-unfolding rank ikeyOf
-rank-eq-short s t bs bt h n = go (split 8 s t bs bt)
-  where
-    go : Split 8 s t → s ≡ t
-    go (below e l) = absurd (omega arith)
-    go (above e l) = absurd (omega arith)
-    go (shorter e k m l) = absurd (omega arith)
-    go (longer e k m l) = absurd (omega arith)
-    go (same e m) = e
-    go (deeper e k m) = absurd (omega arith)
+rank-eq-short s t bs bt h n =
+    by-rank s t bs bt (λ g l. absurd (omega arith)) (λ g. absurd (omega arith)) (λ e m. e) (λ g e k. absurd (omega arith))
 
 pub rank-eq-long : (s t : List ℕ) → Bytes s → Bytes t → rank s ≡ rank t → 8 < length s → byteOrder s t ≡ byteOrder (drop 8 s) (drop 8 t)
-unfolding rank ikeyOf
-rank-eq-long s t bs bt h n = go (split 8 s t bs bt)
-  where
-    go : Split 8 s t → byteOrder s t ≡ byteOrder (drop 8 s) (drop 8 t)
-    go (below e l) = absurd (omega arith)
-    go (above e l) = absurd (omega arith)
-    go (shorter e k m l) = absurd (omega arith)
-    go (longer e k m l) = absurd (omega arith)
-    go (same e m) = absurd (omega arith)
-    go (deeper e k m) = cc (take-append-drop 8 s, take-append-drop 8 t, e, cmp-prefix (take 8 s) (drop 8 s) (drop 8 t))
+rank-eq-long s t bs bt h n =
+    by-rank s t bs bt (λ g l. absurd (omega arith)) (λ g. absurd (omega arith)) (λ e m. absurd (omega arith))
+    (λ g e k. cc (take-append-drop 8 s, take-append-drop 8 t, e, cmp-prefix (take 8 s) (drop 8 s) (drop 8 t)))
 
 -- What lies below eight bytes of a layer has their ikey and goes on.
 pub rank-below : (k t : List ℕ) → length k ≡ 8 → 0 < length t → rank (k ++ t) ≡ ikeyOf k * 16 + 9
@@ -146,21 +125,10 @@ unfolding digits
 digits-length zero x = refl
 digits-length (suc n) x = ap suc (digits-length n x)
 
--- one more of the low bytes
-low : (x p : ℕ) → x % (p * 256) ≡ x / p % 256 * p + x % p
-low x p =
-    omega (
-      arith,
-      div-add-mod' x p,
-      div-add-mod' x (p * 256),
-      ap (λ (y : ℕ). y * p) (div-add-mod' (x / p) 256),
-      ap (λ (y : ℕ). y * p) (div-div-eq-div-mul x p 256),
-    )
-
 be-low : (n x : ℕ) → be n (digits n x) ≡ x % 256 ^ n
 unfolding be digits
 be-low zero x = omega arith
-be-low (suc n) x = rw (pow-suc 256 n, low x (256 ^ n), be-low n x)
+be-low (suc n) x = rw (pow-succ' 256 n, mod-mul x {m = 256} (omega arith) (pos n), be-low n x)
 
 pub be-digits : (n x : ℕ) → x < 256 ^ n → be n (digits n x) ≡ x
 be-digits n x h = be-low n x ∙ mod-eq-of-lt h
@@ -221,21 +189,6 @@ pub padded-length : (s : List ℕ) → length s ≤ 256 → length (padded s) �
 unfolding padded
 padded-length s h = omega (arith, length-append s (replicate (256 - length s) 0), length-replicate {A = ℕ} (256 - length s) 0)
 
-past : (s : List ℕ) (n j : ℕ) → length s ≤ j → getD (s ++ replicate n 0) j 0 ≡ 0
-past [] zero j h = refl
-past [] (suc n) zero h = refl
-past [] (suc n) (suc j) h = past [] n j (omega arith)
-past (a ∷ s) n zero h = absurd (omega arith)
-past (a ∷ s) n (suc j) h = past s n j (omega arith)
-
-pub padded-past : (s : List ℕ) (j : ℕ) → length s ≤ j → getD (padded s) j 0 ≡ 0
-unfolding padded
-padded-past s j h = past s (256 - length s) j h
-
 pub padded-take : (s : List ℕ) → take (length s) (padded s) ≡ s
 unfolding padded
 padded-take s = take-append-seam s (replicate (256 - length s) 0)
-
-pub ikeyOf-padded : (s : List ℕ) → ikeyOf (padded s) ≡ ikeyOf s
-unfolding ikeyOf
-ikeyOf-padded s = sym (be-zeros 8 (length s) (padded s) (padded-past s)) ∙ ap (be 8) (padded-take s)

@@ -3,3 +3,4 @@ pub mod Bytes
 pub mod Ikey
 pub mod Turns
 pub mod Part
+pub mod Words

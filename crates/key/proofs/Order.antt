@@ -1,13 +1,9 @@
 -- Laws of plain byte order: `cmp` and `cmpb` say what each answer of `order` and `byteOrder` means, and `Lex`, the
 -- relation that proofs take apart, is a strict order that `byteOrder` decides. Assumes nothing.
-use mathlib.Core.Path.{_≡_, refl, sym, _∙_, subst}
-use mathlib.Core.List.{List, [], _∷_, _++_}
-use Prim.Native.Nat.{ℕ, _<_}
-use native.Mathlib.Omega.{arith}
-use lib.Dec.{ltb}
-use borrow.Author.Tests.{ltb-true, ltb-false, le-ltb}
+use Rattle.base.specs.Kit.{_≡_, refl, sym, _∙_, subst, List, [], _∷_, _++_, ℕ, _≤_, _<_, arith, ltb, ltb-true, ltb-false}
 use Rattle.base.specs.Pick.{pick}
 use Rattle.base.proofs.Choice.{pick-ind}
+use Rattle.base.proofs.Tests.{tests}
 use Rattle.key.specs.Order.{order, then, byteOrder}
 use Rattle.key.specs.declared.Ordering.{Ordering}
 use Rattle.key.specs.declared.Ordering.the-variants.{Less, Equal, Greater}
@@ -24,15 +20,26 @@ cmp a b =
     pick-ind (Cmp a b) (ltb a b) (λ e. is-lt (ltb-true a b e))
     (λ e. pick-ind (Cmp a b) (ltb b a) (λ f. is-gt (ltb-true b a f)) (λ f. is-eq (omega (arith, ltb-false a b e, ltb-false b a f))))
 
+pub order-less : (a b : ℕ) → a < b → order a b ≡ Less
+unfolding order pick
+order-less a b h = search tests
+
+pub order-greater : (a b : ℕ) → b < a → order a b ≡ Greater
+unfolding order pick
+order-greater a b h = let g : b ≤ a = omega arith in search tests
+
+pub order-equal : (a b : ℕ) → a ≤ b → b ≤ a → order a b ≡ Equal
+unfolding order pick
+order-equal a b h g = search tests
+
+order-refl : (a : ℕ) → order a a ≡ Equal
+order-refl a = order-equal a a (omega arith) (omega arith)
+
 -- s stands before t in plain byte order.
 pub data Lex : List ℕ → List ℕ → Type 0 where
   nil-lt : {b : ℕ} {t : List ℕ} → Lex [] (b ∷ t)
   head-lt : {a b : ℕ} {s t : List ℕ} → a < b → Lex (a ∷ s) (b ∷ t)
   tail-lt : {a b : ℕ} {s t : List ℕ} → a ≡ b → Lex s t → Lex (a ∷ s) (b ∷ t)
-
-pub lex-irrefl : (s : List ℕ) → Lex s s → ⊥
-lex-irrefl (a ∷ s) (head-lt h) = omega arith
-lex-irrefl (a ∷ s) (tail-lt e h) = lex-irrefl s h
 
 pub lex-trans : {r s t : List ℕ} → Lex r s → Lex s t → Lex r t
 lex-trans nil-lt (head-lt h) = nil-lt
@@ -68,53 +75,31 @@ cmpb (a ∷ s) [] = b-gt nil-lt
 cmpb (a ∷ s) (b ∷ t) = cmpb-step (cmp a b) (cmpb s t)
 
 -- The other way: what holds of the two fixes the answer.
-one-answer : {s t : List ℕ} {o q : Ordering} → CmpB s t o → CmpB s t q → o ≡ q
-one-answer (b-lt h) (b-lt k) = refl
-one-answer {t = t} (b-lt h) (b-eq e) = absurd (lex-irrefl t (rw e at h))
-one-answer {s = s} (b-lt h) (b-gt k) = absurd (lex-irrefl s (lex-trans h k))
-one-answer {t = t} (b-eq e) (b-lt k) = absurd (lex-irrefl t (rw e at k))
-one-answer (b-eq e) (b-eq f) = refl
-one-answer {t = t} (b-eq e) (b-gt k) = absurd (lex-irrefl t (rw e at k))
-one-answer {s = s} (b-gt h) (b-lt k) = absurd (lex-irrefl s (lex-trans k h))
-one-answer {t = t} (b-gt h) (b-eq e) = absurd (lex-irrefl t (rw e at h))
-one-answer (b-gt h) (b-gt k) = refl
-
 pub lex-cmp : {s t : List ℕ} → Lex s t → byteOrder s t ≡ Less
-lex-cmp {s} {t} h = one-answer (cmpb s t) (b-lt h)
+unfolding byteOrder then
+lex-cmp nil-lt = refl
+lex-cmp (head-lt h) = rw (order-less _ _ h)
+lex-cmp (tail-lt {b = b} e h) = rw (e, order-refl b) (lex-cmp h)
 
 pub lex-gt : {s t : List ℕ} → Lex t s → byteOrder s t ≡ Greater
-lex-gt {s} {t} h = one-answer (cmpb s t) (b-gt h)
+unfolding byteOrder then
+lex-gt nil-lt = refl
+lex-gt (head-lt h) = rw (order-greater _ _ h)
+lex-gt (tail-lt {b = b} e h) = rw (e, order-refl b) (lex-gt h)
 
 pub cmp-refl : (s : List ℕ) → byteOrder s s ≡ Equal
-cmp-refl s = one-answer (cmpb s s) (b-eq refl)
+unfolding byteOrder then
+cmp-refl [] = refl
+cmp-refl (a ∷ s) = rw (order-refl a) (cmp-refl s)
 
 -- What an answer says, where it is known by an equation.
-said : (s t : List ℕ) {o : Ordering} → byteOrder s t ≡ o → CmpB s t o
-said s t e = subst (CmpB s t) e (cmpb s t)
-
 pub cmp-less : (s t : List ℕ) → byteOrder s t ≡ Less → Lex s t
-cmp-less s t e = go (said s t e)
+cmp-less s t e = go (subst (CmpB s t) e (cmpb s t))
   where
     go : CmpB s t Less → Lex s t
     go (b-lt k) = k
 
-pub cmp-equal : (s t : List ℕ) → byteOrder s t ≡ Equal → s ≡ t
-cmp-equal s t e = go (said s t e)
-  where
-    go : CmpB s t Equal → s ≡ t
-    go (b-eq k) = k
-
-pub cmp-greater : (s t : List ℕ) → byteOrder s t ≡ Greater → Lex t s
-cmp-greater s t e = go (said s t e)
-  where
-    go : CmpB s t Greater → Lex t s
-    go (b-gt k) = k
-
 -- A common front does not count.
-order-refl : (a : ℕ) → order a a ≡ Equal
-unfolding order pick
-order-refl a = rw (le-ltb a a (omega arith))
-
 pub cmp-prefix : (p a b : List ℕ) → byteOrder (p ++ a) (p ++ b) ≡ byteOrder a b
 unfolding byteOrder then
 cmp-prefix [] a b = refl

@@ -1,13 +1,8 @@
 -- The buffer of 256 bytes: what a copy into zeroes comes to. Assumes nothing.
-use mathlib.Core.Path.{_≡_}
-use mathlib.Core.List.{List}
-use Prim.Native.Nat.{ℕ, zero, suc, _-_}
-use native.Mathlib.Nat.{zero-add, zero-sub, sub-zero, suc-sub-suc}
-use lib.ListN.{length, drop, replicate}
-use lib.Seq.{paste, take-length}
+use Rattle.base.specs.Kit.{_≡_, List, ℕ, zero, suc, _-_, zero-add, zero-sub, sub-zero, suc-sub-suc, length, drop, replicate, paste, take-length}
 use Rattle.key.specs.Part.{padded}
 
-pub drop-replicate : (n m a : ℕ) → drop n (replicate m a) ≡ replicate (m - n) a
+drop-replicate : (n m a : ℕ) → drop n (replicate m a) ≡ replicate (m - n) a
 drop-replicate zero m a = rw sub-zero
 drop-replicate (suc n) zero a = rw zero-sub
 drop-replicate (suc n) (suc m) a = rw suc-sub-suc (drop-replicate n m a)

@@ -1,7 +1,6 @@
 -- The ikey of a byte string, and the bytes of an ikey
 -- (01, "The image": "An ikey holds eight key bytes, first byte highest, zero-filled").
-use mathlib.Core.List.{List, [], _∷_}
-use Prim.Native.Nat.{ℕ, zero, suc, _+_, _*_, _/_, _%_, _^_}
+use Rattle.base.specs.Kit.{List, [], _∷_, ℕ, zero, suc, _+_, _*_, _/_, _%_, _^_}
 
 -- The first n bytes of s as one number, first byte highest, zero-filled.
 unfoldable pub be : ℕ → List ℕ → ℕ

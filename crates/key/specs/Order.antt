@@ -1,7 +1,5 @@
 -- Plain byte order (01, module 2: "`contains`, plain byte order"; 02 [1]: "byte order decides").
-use mathlib.Core.List.{List, [], _∷_}
-use Prim.Native.Nat.{ℕ}
-use lib.Dec.{ltb}
+use Rattle.base.specs.Kit.{List, [], _∷_, ℕ, ltb}
 use Rattle.base.specs.Pick.{pick}
 use Rattle.key.specs.declared.Ordering.{Ordering}
 use Rattle.key.specs.declared.Ordering.the-variants.{Less, Equal, Greater}

@@ -1,20 +1,11 @@
 // Keys as byte strings: plain byte order, and the ikey, eight key bytes as one number (the Rust's key.rs).
 //
-// Interface: every public function here. `part_of`, `copy_in` and `padded` ask that what they read or fill is long
-// enough; each result is fixed by a definition of specs/ or of the library.
-ghost use mathlib.Core.Path.{_≡_};
-ghost use Prim.Native.Nat.{_+_, _≤_};
-ghost use lib.ListN.{getD, length};
-ghost use lib.Seq.{paste};
+// Interface: every public function here. `part_of`, `copy_in`, `copy_words_in` and `padded` ask that what they read or
+// fill is long enough; each result is fixed by a definition of specs/ or of the library.
+ghost use Rattle.base.specs.Kit.{_≡_, _+_, _≤_, min, getD, length, paste};
 ghost use Rattle.key.specs.Order.{byteOrder};
 ghost use Rattle.key.specs.Ikey.{ikeyOf, ikeyBytes};
-ghost use Rattle.key.specs.Part.{part, padded};
-
-// The key bytes in one layer.
-pub const IKEY_SIZE: usize = 8;
-
-// The bytes that a key may have.
-pub const MAX_KEY_LENGTH: usize = 256;
+ghost use Rattle.key.specs.Part.{part, padded, pasteWord};
 
 // The answer of a comparison.
 pub enum Ordering {
@@ -113,6 +104,46 @@ pub fn copy_in(buf: &mut [u8], at: usize, s: &[u8])
         buf[at + i] = s[i];
         i += 1;
     }
+}
+
+fn least(a: usize, b: usize) -> usize
+    ensures { λ r. ⌜ r ≡ min a b ⌝ }
+{
+    if a < b {
+        return a;
+    }
+    b
+}
+
+// Eight bytes of s into buf, where s begins at `at`: those from i on, or the last eight where fewer are left. They go through
+// a word of their own, so that they are one load and one store.
+fn copy_word(buf: &mut [u8], at: usize, s: &[u8], i: usize)
+    requires { ⌜ 8 ≤ length (now s) ⌝ }
+    requires { ⌜ at + length (now s) ≤ length (now buf) ⌝ }
+    ensures { λ _. ⌜ now (buf .exit) ≡ pasteWord (now (buf .entry)) at (now (s .entry)) i ⌝ }
+{
+    let from = least(i, s.len() - 8);
+    let mut word = [0u8; 8];
+    copy_in(&mut word, 0, part_of(s, from, 8));
+    copy_in(buf, at + from, &word);
+}
+
+// The same as `copy_in`; 8 to 32 bytes go in four words, whatever their number: a word copied twice costs less than a branch that
+// is guessed wrongly.
+pub fn copy_words_in(buf: &mut [u8], at: usize, s: &[u8])
+    requires { ⌜ at + length (now s) ≤ length (now buf) ⌝ }
+    ensures { λ _. ⌜ now (buf .exit) ≡ paste (now (buf .entry)) at (now (s .entry)) (length (now (s .entry))) ⌝ }
+{
+    if 8 <= s.len() {
+        if s.len() <= 32 {
+            copy_word(buf, at, s, 0);
+            copy_word(buf, at, s, 8);
+            copy_word(buf, at, s, 16);
+            copy_word(buf, at, s, 24);
+            return;
+        }
+    }
+    copy_in(buf, at, s);
 }
 
 // A key in a buffer of 256 bytes, zero past its end.

@@ -1,8 +1,6 @@
 -- Proved: the row of a tree that obeys 01's rules ascends by rank. The idea: the separators bound a subtree's ikeys, the
 -- slots of one leaf ascend, and below the root no rank is 0.
-use mathlib.Core.Path.{_≡_}
-use Prim.Native.Nat.{ℕ, suc, _+_, _*_, _^_, _≤_, _<_, min, max}
-use native.Mathlib.Omega.{arith}
+use Rattle.base.specs.Kit.{_≡_, ℕ, suc, _+_, _*_, _^_, _≤_, _<_, min, max, arith}
 use Rattle.key.specs.Ikey.{ikeyOf, ikeyBytes}
 use Rattle.key.proofs.Bytes.{ikeyBytes-bytes}
 use Rattle.key.proofs.Ikey.{rank, ikeyBytes-length, ikeyOf-ikeyBytes}

@@ -1,9 +1,5 @@
 -- What lies past a key that a bound does not admit is not admitted either. Assumes nothing.
-use mathlib.Core.Path.{_≡_}
-use mathlib.Core.List.{List}
-use mathlib.Core.Bool.{Bool, true, false, true≢false}
-use Prim.Native.Nat.{ℕ}
-use lib.Dec.{eqb}
+use Rattle.base.specs.Kit.{_≡_, List, Bool, true, false, true≢false, ℕ, eqb}
 use Rattle.base.specs.Pick.{pick}
 use Rattle.key.specs.Order.{byteOrder}
 use Rattle.key.specs.declared.Ordering.{Ordering}

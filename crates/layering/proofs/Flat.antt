@@ -1,10 +1,6 @@
 -- The row of a tree: its slots in the order in which a walk meets them. Proved, by recursion on the tree: the row has the
 -- tree's pairs, and it weighs its leaves, its value slots and four for each of its layers. Assumes nothing.
-use mathlib.Core.Path.{_≡_, refl, sym}
-use mathlib.Core.List.{List, _∷_, _++_, append-assoc, append-nil}
-use mathlib.Core.Bool.{Bool, true, false}
-use Prim.Native.Nat.{ℕ, _+_, _*_}
-use native.Mathlib.Omega.{arith}
+use Rattle.base.specs.Kit.{_≡_, refl, sym, List, _∷_, _++_, append-assoc, append-nil, Bool, true, false, ℕ, _+_, _*_, arith}
 use Rattle.base.specs.Pick.{pick}
 use Rattle.key.specs.Ikey.{ikeyBytes}
 use Rattle.layering.specs.Tree.{Node, leaf, internode, beyond, Kids, last, more, Slots, none, value, layer}

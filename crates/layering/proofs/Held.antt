@@ -1,12 +1,6 @@
 -- That an image holds a tree, place by place: what stands in the tree is what the image says there. Proved: an image
 -- holds the tree that `treeOf` reads from it, by recursion on how it is read. Assumes nothing.
-use mathlib.Core.Path.{_≡_, refl}
-use mathlib.Core.Bool.{true, false}
-use mathlib.Core.List.{List}
-use Prim.Native.Nat.{ℕ, zero, suc, _+_, _≤_, _<_}
-use native.Mathlib.Omega.{arith}
-use lib.Dec.{leb}
-use borrow.Author.Tests.{leb-true, leb-false}
+use Rattle.base.specs.Kit.{_≡_, refl, true, false, List, ℕ, zero, suc, _+_, _≤_, _<_, arith, leb, leb-true, leb-false}
 use Rattle.base.proofs.Choice.{pick-ind}
 use Rattle.node.specs.Version.{isLeaf}
 use Rattle.node.specs.Permuter.{sizeOf}

@@ -7,6 +7,7 @@ pub mod Real
 pub mod Ascend
 pub mod Pairs
 pub mod Sieve
+pub mod Asked
 pub mod Bound
 pub mod Walk
 pub mod Descent

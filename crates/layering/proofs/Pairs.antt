@@ -1,10 +1,6 @@
 -- The live pairs of an image that obeys 01's rules: their keys ascend strictly in plain byte order, and have at most 256
 -- bytes. The order comes from the row of the tree; it assumes that the image has bytes only.
-use mathlib.Core.Path.{_≡_, _∙_, subst}
-use mathlib.Core.List.{List, [], _++_, append-nil}
-use Prim.Native.Nat.{ℕ, _+_, _*_, _≤_, _<_}
-use native.Mathlib.Omega.{arith}
-use lib.ListN.{length, getD, drop, length-append, length-take}
+use Rattle.base.specs.Kit.{_≡_, _∙_, subst, List, [], _++_, append-nil, ℕ, _+_, _*_, _≤_, _<_, arith, length, getD, drop, length-append, length-take}
 use Rattle.base.proofs.Choice.{pick-ind}
 use Rattle.key.specs.Part.{part}
 use Rattle.node.specs.Layout.{childAt, rootOffset}

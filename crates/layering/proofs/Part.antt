@@ -1,14 +1,7 @@
 -- What a slot holds of its key. Proved: a value slot's own bytes have the slot's ikey, and the rank that its ikey and
 -- `keylenx` say; and slots that stand before one another ascend by that rank. Assumes of the fields only what "The image"
 -- says of them, and that the ikey is a u64 and the suffix has as many bytes as its length says.
-use mathlib.Core.Path.{_≡_, ap, sym, _∙_}
-use mathlib.Core.List.{_++_}
-use mathlib.Core.Logic.{_⊎_, inl, inr}
-use Prim.Native.Nat.{ℕ, zero, suc, _+_, _*_, _^_, _≤_, _<_, min}
-use native.Mathlib.Omega.{arith}
-use lib.ListN.{length, take, length-append, length-take}
-use lib.Seq.{take-at, take-all}
-use borrow.Author.Tests.{eq-eqb, ne-eqb}
+use Rattle.base.specs.Kit.{_≡_, ap, sym, _∙_, _++_, _⊎_, inl, inr, ⊎-elim, ℕ, zero, suc, _+_, _*_, _^_, _≤_, _<_, min, arith, length, take, length-append, length-take, take-at, take-all, eq-eqb, ne-eqb}
 use Rattle.base.specs.Pick.{pick}
 use Rattle.key.specs.Ikey.{be, ikeyOf, ikeyBytes}
 use Rattle.key.proofs.Bytes.{Bytes, bytes-append, bytes-take, ikeyBytes-bytes}
@@ -41,59 +34,43 @@ module _ (s : Fields) where
 
   module _ {depth : ℕ} (kind : EndsHere depth s ⊎ HasSuffix depth s) where
     pub own-bytes : Bytes (s .suffix) → Bytes (ownBytes s)
-    own-bytes b = go kind
-      where
-        go : EndsHere depth s ⊎ HasSuffix depth s → Bytes (ownBytes s)
-        go (inl h) = rw (own-short (h .short)) (bytes-take (s .keylenx) (ikeyBytes (s .ikey)) (ikeyBytes-bytes (s .ikey)))
-        go (inr h) =
-            rw (own-long (h .long)) (bytes-append (ikeyBytes (s .ikey)) (s .suffix) (ikeyBytes-bytes (s .ikey)) b)
+    own-bytes b =
+        ⊎-elim
+        (λ h. rw (own-short (h .short)) (bytes-take (s .keylenx) (ikeyBytes (s .ikey)) (ikeyBytes-bytes (s .ikey))))
+        (λ h. rw (own-long (h .long)) (bytes-append (ikeyBytes (s .ikey)) (s .suffix) (ikeyBytes-bytes (s .ikey)) b)) kind
 
     pub own-ikey : s .ikey < 2 ^ 64 → ikeyOf (ownBytes s) ≡ s .ikey
     unfolding ikeyOf
-    own-ikey small = go kind ∙ ikeyOf-ikeyBytes (s .ikey) small
-      where
-        go : EndsHere depth s ⊎ HasSuffix depth s → ikeyOf (ownBytes s) ≡ ikeyOf (ikeyBytes (s .ikey))
-        go (inl h) = ap (be 8) (own-short (h .short)) ∙ be-zeros 8 (s .keylenx) (ikeyBytes (s .ikey)) (h .filled)
-        go (inr h) =
-            be-take 8 (ownBytes s) (ikeyBytes (s .ikey))
-            (ap (take 8) (own-long (h .long)) ∙ take-at (ikeyBytes (s .ikey)) (s .suffix) 8 (ikeyBytes-length (s .ikey))
-            ∙ sym (take-all 8 (ikeyBytes (s .ikey)) (omega (arith, ikeyBytes-length (s .ikey)))))
+    own-ikey small =
+        ⊎-elim
+        (λ h. ap (be 8) (own-short (h .short)) ∙ be-zeros 8 (s .keylenx) (ikeyBytes (s .ikey)) (h .filled))
+        (λ h. be-take 8 (ownBytes s) (ikeyBytes (s .ikey))
+        (ap (take 8) (own-long (h .long)) ∙ take-at (ikeyBytes (s .ikey)) (s .suffix) 8 (ikeyBytes-length (s .ikey))
+        ∙ sym (take-all 8 (ikeyBytes (s .ikey)) (omega (arith, ikeyBytes-length (s .ikey)))))) kind
+        ∙ ikeyOf-ikeyBytes (s .ikey) small
 
     pub own-rank : s .ikey < 2 ^ 64 → (s .keylenx ≡ 64 → length (s .suffix) ≡ s .len) → rank (ownBytes s) ≡ slotRank s
     unfolding rank slotRank
-    own-rank small whole = go kind
-      where
-        go : EndsHere depth s ⊎ HasSuffix depth s → rank (ownBytes s) ≡ slotRank s
-        go (inl h) = omega (arith, own-ikey small, length-short (h .short))
-        go (inr h) = omega (arith, own-ikey small, length-long (h .long), whole (h .long), h .long, h .some)
+    own-rank small whole =
+        ⊎-elim (λ h. omega (arith, own-ikey small, length-short (h .short)))
+        (λ h. omega (arith, own-ikey small, length-long (h .long), whole (h .long), h .long, h .some)) kind
 
     -- a key has at most 256 bytes, 8 × depth of them above its slot
     pub own-fits : depth ≤ 31 → length (s .suffix) ≤ s .len → 8 * depth + length (ownBytes s) ≤ 256
-    own-fits d whole = go kind
-      where
-        go : EndsHere depth s ⊎ HasSuffix depth s → 8 * depth + length (ownBytes s) ≤ 256
-        go (inl h) = omega (arith, length-short (h .short), h .short)
-        go (inr h) = omega (arith, length-long (h .long), h .fits)
+    own-fits d whole =
+        ⊎-elim (λ h. omega (arith, length-short (h .short), h .short)) (λ h. omega (arith, length-long (h .long), h .fits)) kind
 
     -- below the root no rank is 0
     pub own-some : min depth 1 ≤ slotRank s
     unfolding slotRank
-    own-some = go kind
+    own-some = ⊎-elim (λ h. omega (arith, some-byte depth (h .some))) (λ h. omega (arith, h .long)) kind
       where
         some-byte : (d : ℕ) → (0 < d → 0 < s .keylenx) → min d 1 ≤ s .keylenx
         some-byte zero f = omega arith
         some-byte (suc d) f = omega (arith, f (omega arith))
 
-        go : EndsHere depth s ⊎ HasSuffix depth s → min depth 1 ≤ slotRank s
-        go (inl h) = omega (arith, some-byte depth (h .some))
-        go (inr h) = omega (arith, h .long)
-
     pub one-long : s .keylenx < 64 → s .keylenx ≤ 8
-    one-long k = go kind
-      where
-        go : EndsHere depth s ⊎ HasSuffix depth s → s .keylenx ≤ 8
-        go (inl h) = h .short
-        go (inr h) = absurd (omega (arith, h .long))
+    one-long k = ⊎-elim (λ h. h .short) (λ h. absurd (omega (arith, h .long))) kind
 
 -- A slot before another has the lower rank, where what is below 64 is at most 8.
 pub before-rank : (s t : Fields) → (s .keylenx < 64 → s .keylenx ≤ 8) → Before s t → slotRank s < slotRank t

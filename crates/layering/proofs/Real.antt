@@ -1,12 +1,7 @@
 -- What is true of the slots of a tree that was read from bytes, whose records lie in post-order in the image: every ikey
 -- is a u64, a suffix has bytes only and as many as its length says, a layer slot has `keylenx` 128 or more. The idea: a
 -- suffix starts at the place reached, and the leaf that names it stands behind it. Assumes that the image has bytes only.
-use mathlib.Core.Path.{_≡_, ap}
-use mathlib.Core.List.{List}
-use Prim.Native.Nat.{ℕ, zero, suc, _+_, _^_, _≤_, _<_}
-use native.Mathlib.Omega.{arith}
-use lib.ListN.{length, getD, drop, length-take, length-drop}
-use borrow.Author.Tests.{eq-eqb}
+use Rattle.base.specs.Kit.{_≡_, ap, List, ℕ, zero, suc, _+_, _^_, _≤_, _<_, arith, length, getD, drop, length-take, length-drop, eq-eqb}
 use Rattle.base.specs.Pick.{pick}
 use Rattle.key.specs.Part.{part}
 use Rattle.key.proofs.Bytes.{Bytes, bytes-of, bytes-part}

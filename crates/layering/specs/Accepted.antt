@@ -1,18 +1,12 @@
 -- Which images are in order: 01's list "An accepted image obeys this", one definition for each of its points, and what
 -- "The image" asks of single fields. All are about the tree that the image holds (specs/Tree.antt).
-use mathlib.Core.Bool.{Bool, true, false, _&&_}
-use mathlib.Core.List.{List, [], _∷_}
-use mathlib.Core.Logic.{_⊎_}
-use mathlib.Core.Path.{_≡_}
-use Prim.Native.Nat.{ℕ, zero, suc, _+_, _*_, _/_, _%_, _-_, _^_, _≤_, _<_}
-use lib.Dec.{eqb}
-use lib.ListN.{length, getD}
+use Rattle.base.specs.Kit.{true, List, _⊎_, _≡_, ℕ, _+_, _*_, _/_, _%_, _-_, _^_, _≤_, _<_, eqb, length, getD}
 use Rattle.base.specs.Pick.{pick}
 use Rattle.key.specs.Ikey.{ikeyBytes}
 use Rattle.node.specs.Version.{atRest}
 use Rattle.node.specs.Permuter.{slotAt}
 use Rattle.node.specs.Layout.{keyCount, statedLength, edition}
-use Rattle.layering.specs.Tree.{Fields, LeafHead, InternodeHead, Node, leaf, internode, beyond, Kids, last, more, Slots, none, value, layer, treeOf}
+use Rattle.layering.specs.Tree.{Fields, Node, leaf, internode, beyond, Kids, last, more, Slots, none, value, layer, treeOf}
 use Rattle.layering.specs.Keys.{valuesN}
 
 -- POSITION. "Records lie in post-order without gaps from byte 8 to the trailer: an internode's subtrees in child order,

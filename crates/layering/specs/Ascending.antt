@@ -1,7 +1,6 @@
 -- Lists of pairs whose keys ascend strictly in plain byte order, and lists of which every pair has some property. The
 -- theorems about `livePairs` (proofs/Pairs.antt) are stated in these words.
-use mathlib.Core.List.{List, [], _∷_}
-use mathlib.Core.Path.{_≡_}
+use Rattle.base.specs.Kit.{List, [], _∷_, _≡_}
 use Rattle.key.specs.Order.{byteOrder}
 use Rattle.key.specs.declared.Ordering.the-variants.{Less}
 use Rattle.layering.specs.Keys.{Pair}

@@ -1,10 +1,6 @@
 -- The keys of a tree, written down by the paper's layering; the list of an image's live pairs, in order; and the three
 -- numbers of a tree. Every tool over accepted images is stated against `livePairs`.
-use mathlib.Core.Bool.{Bool}
-use mathlib.Core.List.{List, [], _∷_, _++_}
-use Prim.Native.Nat.{ℕ, zero, suc, _+_}
-use lib.Dec.{eqb}
-use lib.ListN.{take}
+use Rattle.base.specs.Kit.{List, [], _∷_, _++_, ℕ, _+_, eqb, take}
 use Rattle.base.specs.Pick.{pick}
 use Rattle.key.specs.Ikey.{ikeyBytes}
 use Rattle.layering.specs.Tree.{Fields, Node, leaf, internode, beyond, Kids, last, more, Slots, none, value, layer, treeOf}

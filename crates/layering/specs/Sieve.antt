@@ -1,13 +1,14 @@
--- The part of a list of pairs that a walk is asked for: those whose keys pass a test, and the tests of the two starts
--- ("above" a cursor, and "from" it on), in plain byte order.
-use mathlib.Core.Bool.{Bool, true, false}
-use mathlib.Core.List.{List, [], _∷_}
-use Prim.Native.Nat.{ℕ}
+-- The part of a list of pairs that a walk is asked for: those whose keys pass a test, the tests of the two starts ("above" a cursor, and
+-- "from" it on), in plain byte order, and the row of an image by start and bound.
+use Rattle.base.specs.Kit.{Bool, true, false, List, [], _∷_, ℕ}
 use Rattle.base.specs.Pick.{pick}
 use Rattle.key.specs.Order.{byteOrder}
 use Rattle.key.specs.declared.Ordering.{Ordering}
 use Rattle.key.specs.declared.Ordering.the-variants.{Less, Equal, Greater}
-use Rattle.layering.specs.Keys.{Pair}
+use Rattle.cursor.specs.RangeBound.{contains}
+use Rattle.cursor.specs.declared.range_bound.StartMode.{StartMode}
+use Rattle.cursor.specs.declared.range_bound.StartMode.the-variants.{Above, From}
+use Rattle.layering.specs.Keys.{Pair, livePairs}
 
 -- The pairs whose keys pass the test t, in their order.
 unfoldable pub sieve : (List ℕ → Bool) → List Pair → List Pair
@@ -31,3 +32,11 @@ isAbove cursor key = isLess (byteOrder cursor key)
 -- Whether a key stands above the cursor or is the cursor's own.
 unfoldable pub isFrom : List ℕ → List ℕ → Bool
 isFrom cursor key = isNotGreater (byteOrder cursor key)
+
+-- THE ROW: "exactly the live keys past the start that the bound admits, each once, ascending, with values".
+unfoldable pub past : StartMode → List ℕ → List ℕ → Bool
+past Above cursor key = isAbove cursor key
+past From cursor key = isFrom cursor key
+
+unfoldable pub rowOf : List ℕ → StartMode → List ℕ → ℕ → List ℕ → List Pair
+rowOf image mode cursor kind bound = sieve (contains kind bound) (sieve (past mode cursor) (livePairs image))

@@ -1,9 +1,6 @@
 -- The tree that an image holds: all that its records say, layer by layer (01, "The image"; the paper: a trie whose every
 -- layer is a B+tree over eight key bytes). It is read from any bytes at all; specs/Accepted.antt says which are in order.
-use mathlib.Core.Bool.{Bool}
-use mathlib.Core.List.{List}
-use Prim.Native.Nat.{ℕ, zero, suc, _+_}
-use lib.Dec.{leb}
+use Rattle.base.specs.Kit.{Bool, List, ℕ, zero, suc, _+_, leb}
 use Rattle.base.specs.Pick.{pick}
 use Rattle.key.specs.Part.{part}
 use Rattle.node.specs.Version.{isLeaf}

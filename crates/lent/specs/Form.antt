@@ -1,9 +1,8 @@
 -- The two forms of a step (01: "a second form of the step takes the walk lent and changes it there, same answer").
-use mathlib.Core.List.{List}
-use Prim.Native.Nat.{ℕ}
+use Rattle.base.specs.Kit.{List, ℕ}
 use Rattle.scan.specs.Machine.{step}
-use Rattle.scan.specs.declared.scan_state.Walk.{Walk}
-use Rattle.scan.specs.declared.scan_state.Stepped.{Stepped}
+use Rattle.walk.specs.declared.scan_state.Walk.{Walk}
+use Rattle.walk.specs.declared.scan_state.Stepped.{Stepped}
 use Rattle.lent.specs.declared.StepAnswer.{StepAnswer}
 
 -- "same answer": a step's answer and moves, without the walk.

@@ -2,10 +2,10 @@
 //
 // `step_lent` and `step_over` take anything and have no `requires`. A function that the borrow checker covers cannot lend a
 // struct, so covered callers and programs reach the lent form through `step_over`.
-use scan::scan_state::Answer;
-use scan::scan_state::Stepped;
-use scan::scan_state::Walk;
-ghost use mathlib.Core.Path.{_≡_};
+use walk::scan_state::Answer;
+use walk::scan_state::Stepped;
+use walk::scan_state::Walk;
+ghost use Rattle.base.specs.Kit.{_≡_};
 ghost use Rattle.scan.specs.Machine.{step};
 ghost use Rattle.lent.specs.Form.{answerOf};
 
@@ -19,7 +19,7 @@ pub struct StepAnswer {
 pub fn step_lent(walk: &mut Walk, image: &[u8]) -> StepAnswer
     ensures { λ r. ⌜ (r ≡ answerOf (step (now (walk .entry)) (now (image .entry)))) × (now (walk .exit) ≡ step (now (walk .entry)) (now (image .entry)) .walk) ⌝ }
 {
-    let s = scan::step(*walk, image);
+    let s = scan::step::step(*walk, image);
     *walk = s.walk;
     StepAnswer {
         answer: s.answer,

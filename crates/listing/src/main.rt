@@ -3,20 +3,11 @@
 // output fails the program ends, and where the input fails it says so on standard error and lists nothing.
 use cursor::range_bound::StartMode;
 use node::trailer;
-use scan::scan_state::Answer;
-use scan::scan_state::Walk;
+use requests::LINE;
+use requests::first;
+use walk::scan_state::Answer;
+use walk::scan_state::Walk;
 use verify::Checked;
-
-// The longest line: a key of 256 bytes, a space, twenty digits and a newline.
-const LINE: usize = 534;
-
-// The first n bytes of a buffer.
-fn first<'a>(s: &'a [u8], n: usize) -> &'a [u8] {
-    if s.len() < n {
-        return s;
-    }
-    key::part_of(s, 0, n)
-}
 
 // Writes the first n bytes of a line; false where the output fails.
 fn put(line: &[u8], n: usize) -> bool {
@@ -54,12 +45,12 @@ fn last_line(moves: u64) {
 // The lines of the stations, and the last line. A walk over an accepted image hands out fewer keys than the image has bytes, and
 // its moves fit their sum.
 fn stations(image: &[u8]) {
-    let placed = scan::place(image, StartMode::From, b"", 0, b"");
+    let placed = walk::placing::place(image, StartMode::From, b"", 0, b"");
     let mut walk = placed.walk;
     let mut moves = 0;
     let mut left = image.len();
     while 0 < left {
-        let s = scan::step(walk, image);
+        let s = scan::step::step(walk, image);
         let answer = s.answer;
         walk = s.walk;
         moves = std::num::wrapping_add_usize(moves, s.moves);

@@ -1,30 +1,16 @@
 -- What the answers of calls say of the image and of a definition's choices, for the proofs of the moves. Assumes nothing.
-use mathlib.Core.Path.{_≡_, ap, sym, _∙_, subst}
-use mathlib.Core.Bool.{Bool, true, false, not}
-use mathlib.Core.List.{List}
-use Prim.Native.Nat.{ℕ, _+_, _≤_, _<_}
-use native.Mathlib.Omega.{arith}
-use lib.ListN.{length, length-take, length-drop}
+use Rattle.base.specs.Kit.{_≡_, ap, sym, _∙_, subst, Bool, true, false, not, List, ℕ, _+_, _≤_, _<_, arith, length, length-take, length-drop}
 use Rattle.base.proofs.Choice.{found-so}
 use Rattle.key.specs.Part.{part}
 use Rattle.node.specs.Layout.{suffixAt}
-use Rattle.node.specs.declared.permuter.Slot.{Slot}
+use Rattle.moves.specs.Types.{Slot, Reached, Leaf as ReachedLeaf, CursorPlace, StartMode, Started, Enter, Pass, ScanState, ScanCtx}
 use Rattle.search.specs.Traversal.{leafThere, reach}
 use Rattle.search.specs.Helper.{suffixReadable, suffixBytes}
 use Rattle.search.specs.Start.{startPosition}
-use Rattle.search.specs.declared.traversal.Reached.{Reached}
-use Rattle.search.specs.declared.traversal.Reached.the-variants.{Leaf as ReachedLeaf}
 use Rattle.search.proofs.Answers.{suffix-in}
 use Rattle.search.proofs.Laws.{leaf-there, reach-leaf}
 use Rattle.search.proofs.StartLaws.{enter-within}
-use Rattle.cursor.specs.declared.cursor_key.CursorPlace.{CursorPlace}
-use Rattle.cursor.specs.declared.range_bound.StartMode.{StartMode}
-use Rattle.search.specs.declared.start.Started.{Started}
-use Rattle.search.specs.declared.start.Started.the-variants.{Enter}
 use Rattle.moves.specs.Moves.{Taken, begin, startIn, findStart, passIn, InBuffer}
-use Rattle.moves.specs.declared.scan_state.Pass.{Pass}
-use Rattle.moves.specs.declared.scan_state.ScanState.{ScanState}
-use Rattle.moves.specs.declared.scan_state.ScanCtx.{ScanCtx}
 
 module _ (image : List ℕ) (leaf : ℕ) where
   -- a leaf that a call found to stand there lies in the image

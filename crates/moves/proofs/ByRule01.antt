@@ -1,21 +1,12 @@
 -- A Start move with at most eight bytes left is 01's, over any bytes; in mode above, where the whole cursor has no more than eight
 -- either. Assumes nothing.
-use mathlib.Core.Path.{_≡_, refl}
-use mathlib.Core.List.{List}
-use mathlib.Core.Logic.{_⊎_}
-use Prim.Native.Nat.{ℕ, _+_, _≤_}
-use Rattle.cursor.specs.declared.range_bound.StartMode.{StartMode}
-use Rattle.cursor.specs.declared.range_bound.StartMode.the-variants.{From}
+use Rattle.base.specs.Kit.{_≡_, refl, List, _⊎_, ℕ, _+_, _≤_}
+use Rattle.moves.specs.Types.{StartMode, From, Searched, SearchedAt as At, SearchedFault, Reached, Leaf, ReachedFault as Fault, ScanCtx}
 use Rattle.search.specs.Traversal.{reach}
-use Rattle.search.specs.Start.{firstNotBelow, started, startPosition}
-use Rattle.search.specs.declared.helper.Searched.{Searched}
-use Rattle.search.specs.declared.helper.Searched.the-variants.{At, Fault as SearchedFault}
-use Rattle.search.specs.declared.traversal.Reached.{Reached}
-use Rattle.search.specs.declared.traversal.Reached.the-variants.{Leaf, Fault}
+use Rattle.search.specs.Start.{firstNotBelow, started}
 use Rattle.search.proofs.ByRule01.{by-rule-01}
-use Rattle.moves.specs.Moves.{faulted, standing, kept, begin, startIn, findStart}
+use Rattle.moves.specs.Moves.{standing, kept, begin, startIn, findStart}
 use Rattle.moves.specs.Start01.{startIn01, findStart01}
-use Rattle.moves.specs.declared.scan_state.ScanCtx.{ScanCtx}
 
 module _ (mode : StartMode) (image buf : List ℕ) (c : ScanCtx) where
   stands-so : (leaf : ℕ) (r : Searched)

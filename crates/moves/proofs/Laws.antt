@@ -1,50 +1,17 @@
 -- What the loop cites: `move-in-range`, a move from numbers in range leaves them in range and the buffer at its length; and the
 -- same of the loop's own steps between moves. Assumes nothing.
-use mathlib.Core.Path.{_≡_, refl, sym, _∙_, subst}
-use mathlib.Core.Bool.{Bool, true}
-use mathlib.Core.List.{List}
-use Prim.Native.Nat.{ℕ, _+_, _*_, _-_, _≤_, _<_}
-use native.Mathlib.Omega.{arith}
-use borrow.Author.Tests.{leb-true, leb-false, ltb-false, not-false}
-use lib.ListN.{length}
-use lib.Seq.{length-paste}
+use Rattle.base.specs.Kit.{_≡_, refl, sym, _∙_, subst, Bool, true, List, ℕ, _+_, _*_, _-_, _≤_, _<_, arith, leb-false, length}
 use Rattle.base.proofs.Choice.{pick-ind}
-use Rattle.key.specs.Ikey.{digits, ikeyBytes}
-use Rattle.node.specs.Layout.{permutationAt, keylenxAt, suffixAt}
+use Rattle.node.specs.Layout.{permutationAt}
 use Rattle.node.specs.Permuter.{sizeOf}
-use Rattle.node.specs.declared.permuter.Position.{Position}
-use Rattle.node.specs.declared.permuter.Slot.{Slot}
-use Rattle.cursor.specs.CursorKey.{shift, shiftClear, unshift, withIkey, withLength, storeIkey, storeSuffix}
-use Rattle.cursor.specs.declared.cursor_key.CursorPlace.{CursorPlace}
+use Rattle.moves.specs.Types.{Position, Slot, CursorPlace, Searched, SearchedAt as At, SearchedFault, StartMode, Started, StartedAt, Enter as StartedEnter, StartedFault, Reached, Leaf as ReachedLeaf, ReachedFault, ScanState, Start, Retry, FindNext, Down, Up, ScanCtx, Outcome, Continue, Push, Emit, Exhausted, OutcomeFault as Fault, Pass, Duplicate, No, Yes, DuplicateFault as DupFault}
+use Rattle.cursor.specs.CursorKey.{shift, shiftClear, unshift, withIkey, withLength}
 use Rattle.search.specs.Traversal.{reach}
-use Rattle.search.specs.Helper.{suffixReadable}
 use Rattle.search.specs.Start.{startPosition}
-use Rattle.search.specs.declared.helper.Searched.{Searched}
-use Rattle.search.specs.declared.helper.Searched.the-variants.{At, Fault as SearchedFault}
-use Rattle.cursor.specs.declared.range_bound.StartMode.{StartMode}
-use Rattle.search.specs.declared.start.Started.{Started}
-use Rattle.search.specs.declared.start.Started.the-variants.{At as StartedAt, Enter as StartedEnter, Fault as StartedFault}
-use Rattle.search.specs.declared.traversal.Reached.{Reached}
-use Rattle.search.specs.declared.traversal.Reached.the-variants.{Leaf as ReachedLeaf, Fault as ReachedFault}
 use Rattle.search.proofs.Laws.{lower-within}
 use Rattle.search.proofs.StartLaws.{start-within, enter-within}
-use Rattle.moves.specs.Moves.{faulted, standing, begin, startIn, findStart, retryIn, findRetry, handleDown, handleUp, advanceLeaf, Taken, kept, onward, emitKey, takeInline, takeSuffixed, takeLayer, takeSlot, unlessDup, backToRetry, findSlot, findNext, passIn, InBuffer}
-use Rattle.moves.specs.declared.scan_state.ScanState.{ScanState}
-use Rattle.moves.specs.declared.scan_state.ScanState.the-variants.{Start, Retry, FindNext, Down, Up}
-use Rattle.moves.specs.declared.scan_state.ScanCtx.{ScanCtx}
-use Rattle.moves.specs.declared.scan_state.Outcome.{Outcome}
-use Rattle.moves.specs.declared.scan_state.Outcome.the-variants.{Continue, Push, Emit, Exhausted, Fault}
-use Rattle.moves.specs.declared.scan_state.Pass.{Pass}
-use Rattle.moves.specs.declared.forward_ctx.Duplicate.{Duplicate}
-use Rattle.moves.specs.declared.forward_ctx.Duplicate.the-variants.{No, Yes, Fault as DupFault}
-use Rattle.moves.proofs.Answers.{suffix-length}
-
--- The numbers of a walk whose cursor stands at the place of a layer.
-pub record InRange (layer : ℕ) (c : ScanCtx) : Type 0 where
-  pub place : c .cursor .offset ≡ 8 * layer
-  pub deep : layer ≤ 31
-  pub within : c .cursor .offset + c .cursor .len ≤ 256
-  pub position : c .position .0 ≤ 15
+use Rattle.moves.specs.Moves.{faulted, standing, begin, startIn, findStart, retryIn, findRetry, handleDown, handleUp, advanceLeaf, Taken, kept, onward, emitKey, isStorable, keyPlace, handOut, takeKey, takeLayer, takeSlot, unlessDup, backToRetry, findSlot, findNext, passIn, InBuffer, InRange}
+use Rattle.moves.proofs.StoredKey.{stored, key-fits, key-buf-length}
 
 -- At the loop's head, by the state: the cursor stands at the place of the layer that `depth` counts; for Down that layer has
 -- been entered and the cursor has yet to follow.
@@ -139,7 +106,7 @@ module _ (c : ScanCtx) (k : CursorPlace) (place : k .offset ≡ 8 * c .depth) (d
     goes-on last = record { place = place; deep = deep; within = within; position = omega arith }
 
     emits : (image : List ℕ) (kind : ℕ) (bound buf : List ℕ) (s : Slot) → Good (emitKey image kind bound buf c s k)
-    unfolding emitKey onward
+    unfolding emitKey handOut onward
     emits image kind bound buf s = pick-ind Good _ (λ t. goes-on _) (λ f. pick-ind Good _ (λ t. (refl, goes-on _)) (λ f. goes-on _))
 
 down : (c : ScanCtx) → Before Down c → Good (handleDown c)
@@ -168,16 +135,6 @@ module _ (image : List ℕ) (c : ScanCtx) where
         pick-ind Good _ (λ t. record { place = h .place; deep = h .deep; within = h .within; position = h .position })
         (λ f. pick-ind Good _ (λ t. faults c)
         (λ f. stands c (c .cursor) (h .place) (h .deep) (h .within) _ _ _ _ (λ p e. omega (arith, lower-within image _ (c .cursor) buf p e))))
-
--- the buffer keeps its length
-pub stored : (buf : List ℕ) (offset ikey : ℕ) → length buf ≡ 256 → offset ≤ 248 → length (storeIkey buf offset ikey) ≡ 256
-unfolding storeIkey ikeyBytes digits
-stored buf offset ikey l h = rw (length-paste buf offset (ikeyBytes ikey) 8 (omega arith) (omega arith)) l
-
-pub stored-suffix : (buf : List ℕ) (offset : ℕ) (suffix : List ℕ) → length buf ≡ 256 → offset + 8 + length suffix ≤ 256
-    → length (storeSuffix buf offset suffix) ≡ 256
-unfolding storeSuffix
-stored-suffix buf offset suffix l h = rw (length-paste buf (offset + 8) suffix (length suffix) (omega arith) (omega arith)) l
 
 module _ (image : List ℕ) (kind : ℕ) (bound buf : List ℕ) (c : ScanCtx) (h : InRange (c .depth) c) (l : length buf ≡ 256) where
   keeps-fault : Leaves (kept buf (faulted c))
@@ -210,30 +167,29 @@ module _ (image : List ℕ) (kind : ℕ) (bound buf : List ℕ) (c : ScanCtx) (h
 
   -- a slot that the walk's position names
   module _ (s : Slot) (room : c .position .0 < 15) where
-    inline : keylenxAt image (c .leaf) s ≤ 8 → Leaves (takeInline image kind bound buf c s)
-    unfolding takeInline withIkey withLength
-    inline g = (emits c _ (h .place) (h .deep) (omega arith) room _ _ _ _ _, stored buf _ _ l (omega arith))
+    low : c .cursor .offset ≤ 248
+    low = omega (arith, h .place, h .deep)
 
-    suffixed : suffixReadable image (c .leaf) s ≡ true → c .cursor .offset + 8 + suffixAt image (c .leaf) s .len ≤ 256
-        → Leaves (takeSuffixed image kind bound buf c s)
-    unfolding takeSuffixed withIkey withLength
-    suffixed r g = (
-      emits c _ (h .place) (h .deep) (omega arith) room _ _ _ _ _,
-      stored-suffix _ _ _ (stored buf _ _ l (omega arith)) (rw (suffix-length image (c .leaf) s r) g),
+    key-place : keyPlace image (c .leaf) s (c .cursor) .offset ≡ c .cursor .offset
+    unfolding keyPlace withIkey withLength
+    key-place = refl
+
+    key : isStorable image (c .leaf) s (c .cursor .offset) ≡ true → Leaves (takeKey image kind bound buf c s)
+    unfolding takeKey
+    key t = (
+      emits c (keyPlace image (c .leaf) s (c .cursor)) (key-place ∙ h .place) (h .deep) (key-fits image (c .leaf) s (c .cursor) low t) room _ _ _ _ _,
+      key-buf-length image (c .leaf) s (c .cursor) low t buf l,
     )
 
     layer : c .depth < 31 → Leaves (takeLayer image buf c s)
     unfolding takeLayer withIkey
-    layer g = ((record { place = h .place; deep = h .deep; within = h .within; position = h .position }, g), stored buf _ _ l (omega arith))
+    layer g = ((record { place = h .place; deep = h .deep; within = h .within; position = h .position }, g), stored buf _ _ l low)
 
     takes : Leaves (takeSlot image kind bound buf c s)
     unfolding takeSlot
     takes =
-        pick-ind Leaves _ (λ t. inline (leb-true _ _ t))
-        (λ f. pick-ind Leaves _
-        (λ t. pick-ind Leaves _ (λ t. keeps-fault)
-        (λ r. pick-ind Leaves _ (λ t. keeps-fault) (λ f. suffixed (not-false _ r) (ltb-false _ _ f))))
-        (λ f. pick-ind Leaves _ (λ t. keeps-fault) (λ f. pick-ind Leaves _ (λ t. keeps-fault) (λ f. layer (leb-false _ _ f)))))
+        pick-ind Leaves _ (λ t. key t)
+        (λ f. pick-ind Leaves _ (λ t. keeps-fault) (λ f. pick-ind Leaves _ (λ t. keeps-fault) (λ f. layer (leb-false _ _ f))))
 
     unless-dup : (o : Duplicate) (new : Taken) → Leaves new → Leaves (unlessDup o buf c new)
     unfolding unlessDup kept onward

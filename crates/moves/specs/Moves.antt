@@ -1,38 +1,24 @@
 -- One move in each state, over any bytes and any walk record (01, "Modules", the list Start, Retry, FindNext, Down, Up; the
 -- Rust's forward_ctx.rs). A move takes what goes by value, `c`, and the buffer; the loop holds the stack.
-use mathlib.Core.Bool.{Bool, true, false, not, _&&_}
-use mathlib.Core.List.{List}
-use mathlib.Core.Path.{_≡_}
-use Prim.Native.Nat.{ℕ, _+_, _≤_}
-use lib.Dec.{leb, ltb, eqb}
-use lib.ListN.{length, take}
+use Rattle.base.specs.Kit.{Bool, true, false, not, _&&_, _||_, List, _≡_, ℕ, _+_, _*_, _≤_, leb, ltb, eqb, take}
 use Rattle.base.specs.Pick.{pick}
-use Rattle.node.specs.Permuter.{sizeOf, slotAt}
+use Rattle.node.specs.Permuter.{sizeOf}
 use Rattle.node.specs.Layout.{permutationAt, ikeyAt, keylenxAt, valueAt, liveAt, suffixAt, nextAt}
-use Rattle.node.specs.declared.permuter.Slot.{Slot}
+use Rattle.moves.specs.Types.{Position, Slot, CursorPlace, StoredOrder, Less as SuffixLess, Equal as SuffixEqual, Greater as SuffixGreater, NoSuffix, StoredOrderFault as SuffixFault, Searched, SearchedAt as At, SearchedFault, StartMode, Started, StartedAt, Enter as StartedEnter, StartedFault, Reached, Leaf as ReachedLeaf, ReachedFault, ScanState, Start, Retry, FindNext, Down, Up, ScanCtx, Continue, Push, Emit, Exhausted, OutcomeFault as Fault, Pass, Duplicate, No, Yes, DuplicateFault as DupFault}
 use Rattle.cursor.specs.CursorKey.{shift, shiftClear, unshift, hasSuffix, compareSlot, withIkey, withLength, storeIkey, storeSuffix}
 use Rattle.cursor.specs.RangeBound.{contains}
-use Rattle.cursor.specs.declared.cursor_key.CursorPlace.{CursorPlace}
 use Rattle.search.specs.Traversal.{leafThere, reach}
 use Rattle.search.specs.Helper.{position, slotIn, byOrder, suffixReadable, suffixBytes, storedOrder, lowerWithSuffix}
 use Rattle.search.specs.Start.{startPosition}
-use Rattle.search.specs.declared.helper.StoredOrder.{StoredOrder}
-use Rattle.search.specs.declared.helper.StoredOrder.the-variants.{Less as SuffixLess, Equal as SuffixEqual, Greater as SuffixGreater, NoSuffix, Fault as SuffixFault}
-use Rattle.search.specs.declared.helper.Searched.{Searched}
-use Rattle.search.specs.declared.helper.Searched.the-variants.{At, Fault as SearchedFault}
-use Rattle.cursor.specs.declared.range_bound.StartMode.{StartMode}
-use Rattle.search.specs.declared.start.Started.{Started}
-use Rattle.search.specs.declared.start.Started.the-variants.{At as StartedAt, Enter as StartedEnter, Fault as StartedFault}
-use Rattle.search.specs.declared.traversal.Reached.{Reached}
-use Rattle.search.specs.declared.traversal.Reached.the-variants.{Leaf as ReachedLeaf, Fault as ReachedFault}
-use Rattle.moves.specs.declared.scan_state.ScanState.{ScanState}
-use Rattle.moves.specs.declared.scan_state.ScanState.the-variants.{Start, Retry, FindNext, Down, Up}
-use Rattle.moves.specs.declared.scan_state.ScanCtx.{ScanCtx}
-use Rattle.moves.specs.declared.scan_state.Outcome.{Outcome}
-use Rattle.moves.specs.declared.scan_state.Outcome.the-variants.{Continue, Push, Emit, Exhausted, Fault}
-use Rattle.moves.specs.declared.scan_state.Pass.{Pass}
-use Rattle.moves.specs.declared.forward_ctx.Duplicate.{Duplicate}
-use Rattle.moves.specs.declared.forward_ctx.Duplicate.the-variants.{No, Yes, Fault as DupFault}
+
+-- What a move changes of `c`: all but the layer. What entering or leaving a layer changes: the layer's root, its leaf, the depth.
+abbrev pub standAt : ScanCtx → ℕ → Position → CursorPlace → ScanState → Bool → ℕ → ScanCtx
+standAt c leaf p k state dup last =
+    record { root = c .root; leaf = leaf; position = p; cursor = k; depth = c .depth; state = state; last = last; dup = dup }
+
+abbrev pub inLayer : ScanCtx → ℕ → ℕ → ℕ → ScanCtx
+inLayer c root leaf depth =
+    record { root = root; leaf = leaf; position = c .position; cursor = c .cursor; depth = depth; state = c .state; last = c .last; dup = c .dup }
 
 -- A move that meets 22 leaves all as it was.
 unfoldable pub faulted : ScanCtx → Pass
@@ -40,8 +26,7 @@ faulted c = record { outcome = Fault; ctx = c }
 
 -- The walk stands at a position of a leaf, to find what is there.
 unfoldable pub standing : ScanCtx → ℕ → CursorPlace → Bool → ℕ → Searched → Pass
-standing c leaf k dup last (At p) =
-    record { outcome = Continue; ctx = record { root = c .root; leaf = leaf; position = p; cursor = k; depth = c .depth; state = FindNext; dup = dup; last = last } }
+standing c leaf k dup last (At p) = record { outcome = Continue; ctx = standAt c leaf p k FindNext dup last }
 standing c leaf k dup last SearchedFault = faulted c
 
 -- A pass with the buffer after it. Only a slot that is taken, or whose layer is entered, changes the buffer.
@@ -60,16 +45,7 @@ begin mode image buf c leaf (StartedAt p) = kept buf (standing c leaf (c .cursor
 begin mode image buf c leaf (StartedEnter s) = record {
   pass = record {
     outcome = Push (valueAt image leaf s);
-    ctx = record {
-      root = c .root;
-      leaf = leaf;
-      position = c .position;
-      cursor = shift (c .cursor) buf;
-      depth = c .depth;
-      state = Start mode;
-      dup = c .dup;
-      last = c .last;
-    };
+    ctx = standAt c leaf (c .position) (shift (c .cursor) buf) (Start mode) (c .dup) (c .last);
   };
   buf = storeIkey buf (c .cursor .offset) (c .cursor .ikey);
 }
@@ -91,8 +67,7 @@ findRetry image buf c = retryIn image buf c (reach image (c .cursor .ikey) (c .r
 
 -- "Down: `shift_clear`, the layer's root; Retry."
 unfoldable pub handleDown : ScanCtx → Pass
-handleDown c =
-    record { outcome = Continue; ctx = record { root = c .root; leaf = c .leaf; position = c .position; cursor = shiftClear (c .cursor); depth = c .depth; state = Retry; dup = true; last = 0 } }
+handleDown c = record { outcome = Continue; ctx = standAt c (c .leaf) (c .position) (shiftClear (c .cursor)) Retry true 0 }
 
 -- "Up: .. else pop, `unshift`, past the cursor's ikey; FindNext." The loop has popped: root and leaf are those of the layer
 -- above.
@@ -105,7 +80,7 @@ handleUp image buf c =
 unfoldable pub advanceLeaf : List ℕ → List ℕ → ScanCtx → Pass
 advanceLeaf image buf c =
     pick (eqb (nextAt image (c .leaf)) 0)
-    (record { outcome = Continue; ctx = record { root = c .root; leaf = c .leaf; position = c .position; cursor = c .cursor; depth = c .depth; state = Up; dup = false; last = c .last } })
+    (record { outcome = Continue; ctx = standAt c (c .leaf) (c .position) (c .cursor) Up false (c .last) })
     (pick (not (leafThere image (nextAt image (c .leaf)))) (faulted c)
     (standing c (nextAt image (c .leaf)) (c .cursor) false (c .last) (lowerWithSuffix image (nextAt image (c .leaf)) (c .cursor) buf)))
 
@@ -131,54 +106,50 @@ dupDue image buf c s = pick (c .dup) (dupOf image buf c s) No
 
 -- A slot that has been passed: position one on.
 unfoldable pub onward : ScanCtx → CursorPlace → ℕ → ScanCtx
-onward c k last = record {
-  root = c .root;
-  leaf = c .leaf;
-  position = position (c .position .0 + 1);
-  cursor = k;
-  depth = c .depth;
-  state = FindNext;
-  dup = false;
-  last = last;
-}
+onward c k last = standAt c (c .leaf) (position (c .position .0 + 1)) k FindNext false last
 
--- "a live key in bounds is put in the cursor and is out, position one on; one out of bounds ends the walk". The cursor `k` and
--- the buffer hold the key already; a dead slot's key is stored too, and its bound is not tested.
+-- A slot's key can be stored in cursor and buffer: it ends in this layer, or goes on in a suffix that can be read and fits. "22: .. a key
+-- over 256 bytes".
+unfoldable pub isStorable : List ℕ → ℕ → Slot → ℕ → Bool
+isStorable image leaf s offset =
+    leb (keylenxAt image leaf s) 8
+    || (eqb (keylenxAt image leaf s) 64 && (suffixReadable image leaf s && leb (offset + 8 + suffixAt image leaf s .len) 256))
+
+-- Cursor and buffer with the key stored in them.
+unfoldable pub keyPlace : List ℕ → ℕ → Slot → CursorPlace → CursorPlace
+keyPlace image leaf s k =
+    let keylenx = keylenxAt image leaf s in
+    withLength (withIkey k (ikeyAt image leaf s)) (pick (leb keylenx 8) keylenx (8 + suffixAt image leaf s .len))
+
+unfoldable pub keyBuf : List ℕ → ℕ → Slot → ℕ → List ℕ → List ℕ
+keyBuf image leaf s offset buf =
+    let b = storeIkey buf offset (ikeyAt image leaf s) in
+    pick (leb (keylenxAt image leaf s) 8) b (storeSuffix b offset (suffixBytes image leaf s))
+
+-- "a live key in bounds is put in the cursor and is out, position one on; one out of bounds ends the walk". The cursor `k` and the buffer
+-- hold the key.
+unfoldable pub handOut : List ℕ → ℕ → List ℕ → List ℕ → ScanCtx → Slot → CursorPlace → Pass
+handOut image kind bound buf c s k =
+    pick (contains kind bound (take (k .offset + k .len) buf))
+    (record { outcome = Emit (valueAt image (c .leaf) s); ctx = onward c k (k .ikey) })
+    (record { outcome = Exhausted; ctx = onward c k (k .ikey) })
+
+-- A dead slot's key is stored too, and its bound is not tested.
 unfoldable pub emitKey : List ℕ → ℕ → List ℕ → List ℕ → ScanCtx → Slot → CursorPlace → Pass
 emitKey image kind bound buf c s k =
-    pick (not (liveAt image (c .leaf) s)) (record { outcome = Continue; ctx = onward c k (c .last) })
-    (pick (contains kind bound (take (k .offset + k .len) buf))
-    (record { outcome = Emit (valueAt image (c .leaf) s); ctx = onward c k (k .ikey) })
-    (record { outcome = Exhausted; ctx = onward c k (k .ikey) }))
+    pick (not (liveAt image (c .leaf) s)) (record { outcome = Continue; ctx = onward c k (c .last) }) (handOut image kind bound buf c s k)
 
--- A key that ends in this layer, or goes on in its suffix: what the cursor and the buffer are once it is stored in them.
-unfoldable pub takeInline : List ℕ → ℕ → List ℕ → List ℕ → ScanCtx → Slot → Taken
-takeInline image kind bound buf c s =
-    let ikey = ikeyAt image (c .leaf) s in
-    let b = storeIkey buf (c .cursor .offset) ikey in
-    record { pass = emitKey image kind bound b c s (withLength (withIkey (c .cursor) ikey) (keylenxAt image (c .leaf) s)); buf = b }
-
-unfoldable pub takeSuffixed : List ℕ → ℕ → List ℕ → List ℕ → ScanCtx → Slot → Taken
-takeSuffixed image kind bound buf c s =
-    let ikey = ikeyAt image (c .leaf) s in
-    let b = storeSuffix (storeIkey buf (c .cursor .offset) ikey) (c .cursor .offset) (suffixBytes image (c .leaf) s) in
-    record { pass = emitKey image kind bound b c s (withLength (withIkey (c .cursor) ikey) (8 + suffixAt image (c .leaf) s .len)); buf = b }
+unfoldable pub takeKey : List ℕ → ℕ → List ℕ → List ℕ → ScanCtx → Slot → Taken
+takeKey image kind bound buf c s =
+    let b = keyBuf image (c .leaf) s (c .cursor .offset) buf in
+    record { pass = emitKey image kind bound b c s (keyPlace image (c .leaf) s (c .cursor)); buf = b }
 
 -- "A layer: root and leaf stacked, its ikey in the cursor; Down." The loop stacks them, and takes the layer's root.
 unfoldable pub takeLayer : List ℕ → List ℕ → ScanCtx → Slot → Taken
 takeLayer image buf c s = record {
   pass = record {
     outcome = Push (valueAt image (c .leaf) s);
-    ctx = record {
-      root = c .root;
-      leaf = c .leaf;
-      position = c .position;
-      cursor = withIkey (c .cursor) (ikeyAt image (c .leaf) s);
-      depth = c .depth;
-      state = Down;
-      dup = false;
-      last = c .last;
-    };
+    ctx = standAt c (c .leaf) (c .position) (withIkey (c .cursor) (ikeyAt image (c .leaf) s)) Down false (c .last);
   };
   buf = storeIkey buf (c .cursor .offset) (ikeyAt image (c .leaf) s);
 }
@@ -187,12 +158,9 @@ takeLayer image buf c s = record {
 -- over 256 bytes, or a layer slot at depth 31."
 unfoldable pub takeSlot : List ℕ → ℕ → List ℕ → List ℕ → ScanCtx → Slot → Taken
 takeSlot image kind bound buf c s =
-    pick (leb (keylenxAt image (c .leaf) s) 8) (takeInline image kind bound buf c s)
-    (pick (eqb (keylenxAt image (c .leaf) s) 64)
-    (pick (not (suffixReadable image (c .leaf) s)) (kept buf (faulted c))
-    (pick (ltb 256 (c .cursor .offset + 8 + suffixAt image (c .leaf) s .len)) (kept buf (faulted c)) (takeSuffixed image kind bound buf c s)))
+    pick (isStorable image (c .leaf) s (c .cursor .offset)) (takeKey image kind bound buf c s)
     (pick (ltb (keylenxAt image (c .leaf) s) 128) (kept buf (faulted c))
-    (pick (leb 31 (c .depth)) (kept buf (faulted c)) (takeLayer image buf c s))))
+    (pick (leb 31 (c .depth)) (kept buf (faulted c)) (takeLayer image buf c s)))
 
 -- The slot at the walk's position, past the duplicate check where that is due.
 unfoldable pub unlessDup : Duplicate → List ℕ → ScanCtx → Taken → Taken
@@ -202,10 +170,7 @@ unlessDup DupFault buf c new = kept buf (faulted c)
 
 -- An ikey below the last one handed out makes the walk look for its place anew.
 unfoldable pub backToRetry : ScanCtx → Pass
-backToRetry c = record {
-  outcome = Continue;
-  ctx = record { root = c .root; leaf = c .leaf; position = c .position; cursor = c .cursor; depth = c .depth; state = Retry; dup = false; last = c .last };
-}
+backToRetry c = record { outcome = Continue; ctx = standAt c (c .leaf) (c .position) (c .cursor) Retry false (c .last) }
 
 unfoldable pub findSlot : List ℕ → ℕ → List ℕ → List ℕ → ScanCtx → Slot → Taken
 findSlot image kind bound buf c s =
@@ -238,3 +203,10 @@ InBuffer Up c = (8 ≤ c .cursor .offset) × (c .cursor .offset ≤ 248)
 
 abbrev pub MoveOk : ScanCtx → Type 0
 MoveOk c = InBuffer (c .state) c
+
+-- The numbers of a walk whose cursor stands at the place of a layer.
+pub record InRange (layer : ℕ) (c : ScanCtx) : Type 0 where
+  pub place : c .cursor .offset ≡ 8 * layer
+  pub deep : layer ≤ 31
+  pub within : c .cursor .offset + c .cursor .len ≤ 256
+  pub position : c .position .0 ≤ 15

@@ -1,14 +1,10 @@
 -- 01's Start move, by 01's own rule. No move is defined by it: "Up to eight bytes nothing changes" (02 [1]) is a theorem about it,
 -- proofs/ByRule01.antt.
-use mathlib.Core.List.{List}
-use Prim.Native.Nat.{ℕ}
+use Rattle.base.specs.Kit.{List, ℕ}
 use Rattle.search.specs.Traversal.{reach}
 use Rattle.search.specs.Start.{firstNotBelow}
-use Rattle.search.specs.declared.traversal.Reached.{Reached}
-use Rattle.search.specs.declared.traversal.Reached.the-variants.{Leaf, Fault}
+use Rattle.moves.specs.Types.{Reached, Leaf, ReachedFault as Fault, ScanCtx, Pass}
 use Rattle.moves.specs.Moves.{faulted, standing}
-use Rattle.moves.specs.declared.scan_state.ScanCtx.{ScanCtx}
-use Rattle.moves.specs.declared.scan_state.Pass.{Pass}
 
 -- "reach the leaf and stand at the first slot whose ikey, then `keylenx`, is not below the cursor's ikey, then length, else past the
 -- last; no duplicate check"; "Both go to FindNext."

@@ -1,18 +1,17 @@
-// The fast path, which the Rust has not: most moves after a key hand out the next slot's key, and no test turns it away.
-// Whether a move is one of these is told before anything is written; `one_move` makes every other.
+// The fast path, which the Rust has not: after a key most moves hand out the next slot's key, and no test but the bound's turns it away.
+// The loop, the step and the step of a C record all make such a move by these two functions, each on the walk as it has it;
+// `one_move` makes every other.
+use crate::stored_key;
 use cursor::cursor_key::CursorPlace;
+use cursor::range_bound;
 use node::leaf;
 use node::permuter;
 use node::permuter::Position;
 use node::permuter::Slot;
-use search::helper;
-use search::traversal;
-ghost use mathlib.Core.Path.{_≡_};
-ghost use mathlib.Core.Bool.{true};
-ghost use Prim.Native.Nat.{_≤_};
-ghost use Rattle.node.specs.Layout.{InSlot};
-ghost use Rattle.search.specs.Traversal.{leafThere};
-ghost use Rattle.moves.specs.FastPath.{isStorable, isFast, fastSlot, keyPlace, keyBuf};
+ghost use Rattle.base.specs.Kit.{_≡_, true, _≤_, length};
+ghost use Rattle.node.specs.Layout.{InLeaf, InSlot};
+ghost use Rattle.moves.specs.Moves.{isStorable, keyBuf};
+ghost use Rattle.moves.specs.FastPath.{fastSlot, nextKey};
 
 // The slot whose key is next, or that it takes more than this to tell.
 pub enum FastSlot {
@@ -20,68 +19,19 @@ pub enum FastSlot {
     Slow,
 }
 
-// Whether a slot's key can be stored in cursor and buffer: it ends in this layer, or its suffix can be read and fits.
-fn is_storable(image: &[u8], leaf: usize, slot: Slot, offset: usize) -> bool
-    requires { ⌜ InSlot (now image) leaf slot ⌝ }
-    requires { ⌜ offset ≤ 248 ⌝ }
-    ensures { λ r. ⌜ r ≡ isStorable (now (image .entry)) leaf slot offset ⌝ }
-{
-    let keylenx = leaf::keylenx(image, leaf, slot);
-    if keylenx <= 8 {
-        return true;
-    }
-    if keylenx != leaf::KSUF_KEYLENX {
-        return false;
-    }
-    if !helper::is_suffix_readable(image, leaf, slot) {
-        return false;
-    }
-    let suffix = leaf::ksuf(image, leaf, slot);
-    offset + 8 + suffix.len <= 256
+// A key that is stored in cursor and buffer: it is out, with its value, or past the bound.
+pub enum NextKey {
+    Out { k: CursorPlace, value: u64 },
+    Past(CursorPlace),
 }
 
-// Whether a slot's key is not before the cursor's, live and storable.
-fn is_fast(image: &[u8], leaf: usize, slot: Slot, k: CursorPlace) -> bool
-    requires { ⌜ InSlot (now image) leaf slot ⌝ }
+// The slot at a walk's position, where its leaf stands: in use, not before the cursor's ikey, storable and live.
+pub fn fast_slot(image: &[u8], leaf: usize, position: Position, k: CursorPlace) -> FastSlot
+    requires { ⌜ InLeaf (now image) leaf ⌝ }
     requires { ⌜ k .offset ≤ 248 ⌝ }
-    ensures { λ r. ⌜ r ≡ isFast (now (image .entry)) leaf slot k ⌝ }
-{
-    if leaf::ikey(image, leaf, slot) < k.ikey {
-        return false;
-    }
-    if !leaf::live(image, leaf, slot) {
-        return false;
-    }
-    is_storable(image, leaf, slot, k.offset)
-}
-
-// Whether a leaf stands at an offset, where the caller may know it.
-fn is_there(image: &[u8], leaf: u64, there: bool) -> bool
-    requires { ⌜ (there ≡ true → leafThere (now image) leaf ≡ true) ⌝ }
-    ensures { λ r. ⌜ r ≡ leafThere (now (image .entry)) leaf ⌝ }
-{
-    if there {
-        return true;
-    }
-    traversal::is_leaf_there(image, leaf)
-}
-
-// The slot at a walk's position, where it is fast; `there` tells that the leaf is known to stand there.
-pub fn fast_slot(
-    image: &[u8],
-    leaf: u64,
-    position: Position,
-    k: CursorPlace,
-    there: bool,
-) -> FastSlot
-    requires { ⌜ k .offset ≤ 248 ⌝ }
-    requires { ⌜ (there ≡ true → leafThere (now image) leaf ≡ true) ⌝ }
     ensures { λ r. ⌜ r ≡ fastSlot (now (image .entry)) leaf position k ⌝ }
 {
-    if !is_there(image, leaf, there) {
-        return FastSlot::Slow;
-    }
-    let permutation = leaf::permutation(image, leaf as usize);
+    let permutation = leaf::permutation(image, leaf);
     let i = position.0;
     if permuter::size(permutation) <= i {
         return FastSlot::Slow;
@@ -91,30 +41,45 @@ pub fn fast_slot(
     if 15 <= s {
         return FastSlot::Slow;
     }
-    if !is_fast(image, leaf as usize, slot, k) {
+    if leaf::ikey(image, leaf, slot) < k.ikey {
+        return FastSlot::Slow;
+    }
+    if !stored_key::is_storable(image, leaf, slot, k.offset) {
+        return FastSlot::Slow;
+    }
+    if !leaf::live(image, leaf, slot) {
         return FastSlot::Slow;
     }
     FastSlot::At(slot)
 }
 
-// A slot's key into cursor and buffer.
-pub fn store_key(
+// A live slot's key into cursor and buffer, and whether the bound admits it.
+pub fn hand_out(
     image: &[u8],
+    kind: u8,
+    bound: &[u8],
+    buf: &mut [u8],
     leaf: usize,
     slot: Slot,
-    buf: &mut [u8; 256],
     k: CursorPlace,
-) -> CursorPlace
+) -> NextKey
     requires { ⌜ InSlot (now image) leaf slot ⌝ }
+    requires { ⌜ length (now buf) ≡ 256 ⌝ }
     requires { ⌜ k .offset ≤ 248 ⌝ }
     requires { ⌜ isStorable (now image) leaf slot (k .offset) ≡ true ⌝ }
-    ensures { λ r. ⌜ (r ≡ keyPlace (now (image .entry)) leaf slot k) × (now (buf .exit) ≡ keyBuf (now (image .entry)) leaf slot (k .offset) (now (buf .entry))) ⌝ }
+    ensures { λ r. ⌜ (r ≡ nextKey (now (image .entry)) kind (now (bound .entry)) (now (buf .entry)) leaf slot k) × (now (buf .exit) ≡ keyBuf (now (image .entry)) leaf slot (k .offset) (now (buf .entry))) ⌝ }
 {
-    let stored = k.assign_store_ikey(buf, leaf::ikey(image, leaf, slot));
-    let keylenx = leaf::keylenx(image, leaf, slot);
-    if keylenx <= 8 {
-        return stored.assign_store_length(keylenx as usize);
+    let stored = stored_key::store_key(image, leaf, slot, buf, k);
+    if range_bound::contains(
+        kind,
+        bound,
+        key::part_of(buf, 0, stored.offset + stored.len),
+    ) {
+        let value = leaf::value(image, leaf, slot);
+        return NextKey::Out {
+            k: stored,
+            value: value,
+        };
     }
-    let len = stored.assign_store_suffix(buf, helper::stored_suffix(image, leaf, slot));
-    stored.assign_store_length(len)
+    NextKey::Past(stored)
 }

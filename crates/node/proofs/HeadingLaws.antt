@@ -1,9 +1,5 @@
 -- What the length test says of an image's length. Assumes nothing.
-use mathlib.Core.Path.{_≡_}
-use mathlib.Core.Bool.{true, _&&_, and-eq-true-iff}
-use Prim.Native.Nat.{ℕ, _%_, _≤_}
-use lib.Dec.{leb, eqb}
-use borrow.Author.Tests.{leb-true, eqb-true}
+use Rattle.base.specs.Kit.{_≡_, true, _&&_, and-eq-true-iff, ℕ, _%_, _≤_, leb, eqb, leb-true, eqb-true}
 use Rattle.node.specs.Heading.{lengthOk}
 
 -- 01's number 1 is not met

@@ -1,10 +1,5 @@
 -- The search in an internode, one separator at a time, and the bound of what it finds. Assumes nothing.
-use mathlib.Core.Path.{_≡_}
-use mathlib.Core.List.{List}
-use Prim.Native.Nat.{ℕ, zero, suc, _+_, _-_, _<_, _≤_}
-use native.Mathlib.Omega.{arith}
-use borrow.Author.Tests.{le-ltb, lt-ltb, eq-eqb, ne-eqb}
-use lib.Dec.{ltb, eqb}
+use Rattle.base.specs.Kit.{_≡_, List, ℕ, zero, suc, _+_, _-_, _<_, _≤_, arith, le-ltb, lt-ltb, eq-eqb, ne-eqb, ltb, eqb}
 use Rattle.base.specs.Pick.{pick}
 use Rattle.base.proofs.Choice.{pick-ind}
 use Rattle.base.proofs.Count.{left-more}

@@ -1,11 +1,5 @@
--- Laws of little-endian numbers: a wide one is its low part and its high part, and n bytes give a number below 256 ^ n.
--- Assumes nothing.
-use mathlib.Core.Path.{_≡_}
-use mathlib.Core.List.{List}
-use Prim.Native.Nat.{ℕ, zero, suc, _+_, _*_, _^_, _<_}
-use native.Mathlib.Nat.{add-zero, zero-add, suc-add, pow-zero, pow-succ', one-mul}
-use native.Mathlib.Omega.{arith}
-use lib.ListN.{getD}
+-- Laws of little-endian numbers: a wide one is its low part and its high part. Assumes nothing.
+use Rattle.base.specs.Kit.{_≡_, List, ℕ, zero, suc, _+_, _*_, _^_, add-zero, zero-add, suc-add, pow-zero, pow-succ', one-mul, arith}
 use Rattle.node.specs.Le.{le, u16At, u32At, u64At}
 
 -- m + n bytes: the first m are the low part, the n behind them the high part
@@ -24,22 +18,3 @@ u32At-halves = le-split 2 2
 pub u64At-halves : (s : List ℕ) (at : ℕ) → u64At s at ≡ u32At s at + 4294967296 * u32At s (at + 4)
 unfolding u32At u64At
 u64At-halves = le-split 4 4
-
--- where every element is a byte (past the end `getD` gives 0)
-module _ (s : List ℕ) (byte : (i : ℕ) → getD s i 0 < 256) where
-  pub le-bound : (n at : ℕ) → le n s at < 256 ^ n
-  unfolding le
-  le-bound zero at = omega arith
-  le-bound (suc n) at = simp pow-succ' (omega (arith, byte at, le-bound n (at + 1)))
-
-  pub u16At-fits : (at : ℕ) → u16At s at < 2 ^ 16
-  unfolding u16At
-  u16At-fits = le-bound 2
-
-  pub u32At-fits : (at : ℕ) → u32At s at < 2 ^ 32
-  unfolding u32At
-  u32At-fits = le-bound 4
-
-  pub u64At-fits : (at : ℕ) → u64At s at < 2 ^ 64
-  unfolding u64At
-  u64At-fits = le-bound 8

@@ -5,5 +5,4 @@ pub mod KsearchLaws
 pub mod HeadingLaws
 pub mod Result
 pub mod Thin
-pub mod Slotted
-pub mod Leafed
+pub mod Readers

@@ -1,6 +1,5 @@
 -- The permutation's fields have four bits each. Assumes nothing.
-use Prim.Native.Nat.{ℕ, _<_}
-use native.Mathlib.Omega.{arith}
+use Rattle.base.specs.Kit.{ℕ, _<_, arith}
 use Rattle.node.specs.Permuter.{sizeOf, slotAt}
 use Rattle.node.specs.declared.permuter.Position.{Position}
 

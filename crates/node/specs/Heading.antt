@@ -1,10 +1,6 @@
 -- What is asked of an image before its tree is looked at (01, "Check an image": "1: length under 440, over 16,777,216, or
 -- no multiple of 8. 2: stated length differs, or edition is not 1"). The check and the placing both begin with it.
-use mathlib.Core.Bool.{Bool, true, false, _&&_}
-use mathlib.Core.List.{List}
-use Prim.Native.Nat.{ℕ, _%_}
-use lib.Dec.{leb, eqb}
-use lib.ListN.{length}
+use Rattle.base.specs.Kit.{Bool, _&&_, List, ℕ, _%_, leb, eqb, length}
 use Rattle.base.specs.Pick.{pick}
 use Rattle.node.specs.Layout.{statedLength, edition}
 

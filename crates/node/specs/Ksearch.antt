@@ -1,7 +1,5 @@
 -- The search in an internode (01, module 5: "a search equal to separator i goes to child i+1").
-use mathlib.Core.List.{List}
-use Prim.Native.Nat.{ℕ, zero, suc, _+_}
-use lib.Dec.{ltb, eqb}
+use Rattle.base.specs.Kit.{List, ℕ, zero, suc, _+_, ltb, eqb}
 use Rattle.base.specs.Pick.{pick}
 use Rattle.node.specs.Layout.{separatorAt}
 

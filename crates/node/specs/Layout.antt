@@ -1,9 +1,6 @@
 -- Where each field of an image stands (01, "The image"). `image` is the image's bytes, `leaf` and `at` are offsets that
 -- count from its start.
-use mathlib.Core.Bool.{Bool}
-use mathlib.Core.List.{List}
-use Prim.Native.Nat.{ℕ, _+_, _*_, _/_, _%_, _-_, _^_, _≤_, _<_}
-use lib.ListN.{length, getD}
+use Rattle.base.specs.Kit.{Bool, List, ℕ, _+_, _*_, _/_, _%_, _-_, _^_, _≤_, _<_, length, getD}
 use Rattle.node.specs.Le.{u16At, u32At, u64At}
 use Rattle.node.specs.Version.{bit}
 use Rattle.node.specs.declared.permuter.Slot.{Slot}

@@ -1,7 +1,5 @@
 -- Little-endian numbers (01, "The image": "Integers are little-endian").
-use mathlib.Core.List.{List}
-use Prim.Native.Nat.{ℕ, zero, suc, _+_, _*_}
-use lib.ListN.{getD}
+use Rattle.base.specs.Kit.{List, ℕ, zero, suc, _+_, _*_, getD}
 
 -- The n bytes of s from `at` on as one number, the low byte first.
 unfoldable pub le : ℕ → List ℕ → ℕ → ℕ

@@ -1,6 +1,6 @@
 -- The permutation (01, "The image": "The permutation's low four bits are the size, the next fifteen four-bit fields the
 -- slots in order"; "A position in the order and a slot number are kept apart").
-use Prim.Native.Nat.{ℕ, _+_, _*_, _/_, _%_, _^_}
+use Rattle.base.specs.Kit.{ℕ, _+_, _*_, _/_, _%_, _^_}
 use Rattle.node.specs.declared.permuter.Position.{Position}
 use Rattle.node.specs.declared.permuter.Slot.{Slot}
 

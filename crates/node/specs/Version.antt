@@ -1,8 +1,6 @@
 -- Version bits (01, "The image": "Version bit 31 marks a leaf; bits 0, 1, 2 and 29 (lock, inserting, splitting,
 -- deleted) are clear at rest"). No other bit is read.
-use mathlib.Core.Bool.{Bool, true, false}
-use Prim.Native.Nat.{ℕ, _/_, _%_, _^_}
-use lib.Dec.{eqb}
+use Rattle.base.specs.Kit.{Bool, true, false, ℕ, _/_, _%_, _^_, eqb}
 use Rattle.base.specs.Pick.{pick}
 
 -- Whether bit k of a word is set.

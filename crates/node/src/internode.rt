@@ -1,9 +1,7 @@
 // An internode's fields (the Rust's internode/accessors.rs), and the version word that leaves and internodes both begin
 // with, by the lent image and the record's offset.
 use crate::le;
-ghost use mathlib.Core.Path.{_≡_};
-ghost use Prim.Native.Nat.{_+_, _≤_, _<_};
-ghost use lib.ListN.{length};
+ghost use Rattle.base.specs.Kit.{_≡_, _+_, _<_};
 ghost use Rattle.node.specs.Layout.{InInternode, versionAt, nkeysAt, separatorAt, childAt};
 
 // An internode's bytes. No record has fewer.

@@ -1,8 +1,6 @@
 // The search in an internode (the Rust's ksearch/scalar.rs).
 use crate::internode;
-ghost use mathlib.Core.Path.{_≡_};
-ghost use Prim.Native.Nat.{_+_, _≤_};
-ghost use lib.ListN.{length};
+ghost use Rattle.base.specs.Kit.{_≡_, _+_, _≤_};
 ghost use Rattle.node.specs.Layout.{InInternode};
 ghost use Rattle.node.specs.Ksearch.{upperBound};
 

@@ -1,7 +1,5 @@
 // Little-endian numbers in a lent slice.
-ghost use mathlib.Core.Path.{_≡_};
-ghost use Prim.Native.Nat.{_+_, _*_, _≤_};
-ghost use lib.ListN.{length};
+ghost use Rattle.base.specs.Kit.{_≡_, _+_, _*_, _≤_, length};
 ghost use Rattle.node.specs.Le.{u16At, u32At, u64At};
 
 // The number of two bytes, the low one first.

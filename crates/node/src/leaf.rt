@@ -3,9 +3,7 @@
 // plain parameters above it.
 use crate::le;
 use crate::permuter::Slot;
-ghost use mathlib.Core.Path.{_≡_};
-ghost use Prim.Native.Nat.{_+_, _≤_, _<_};
-ghost use lib.ListN.{length};
+ghost use Rattle.base.specs.Kit.{_≡_, _+_};
 ghost use Rattle.node.specs.Layout.{InLeaf, InSlot, permutationAt, ikeyAt, keylenxAt, valueAt, suffixAt, liveAt, nextAt};
 
 // Where a suffix stands in the image, and how many bytes it has.
@@ -16,9 +14,6 @@ pub struct Suffix {
 
 // A leaf's bytes.
 pub const LEAF_SIZE: usize = 400;
-
-// The slots of a leaf.
-pub const WIDTH: usize = 15;
 
 // `keylenx` of a key with a suffix.
 pub const KSUF_KEYLENX: u8 = 64;

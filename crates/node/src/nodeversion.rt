@@ -1,6 +1,5 @@
 // A record's version word (the Rust's nodeversion.rs): the leaf bit, and the four bits that are clear at rest.
-ghost use mathlib.Core.Path.{_≡_};
-ghost use Prim.Native.Nat.{_<_};
+ghost use Rattle.base.specs.Kit.{_≡_, _<_};
 ghost use Rattle.node.specs.Version.{bit, isLeaf, atRest};
 
 // Whether bit k is set.

@@ -1,7 +1,6 @@
 // A leaf's permutation (the Rust's permuter.rs): how many slots are used, and which slot stands at a position of their
 // order. A position and a slot are kept apart; the permutation alone turns one into the other.
-ghost use mathlib.Core.Path.{_≡_};
-ghost use Prim.Native.Nat.{_<_};
+ghost use Rattle.base.specs.Kit.{_≡_, _<_};
 ghost use Rattle.node.specs.Permuter.{sizeOf, slotAt};
 
 // A position in the order of the keys.

@@ -1,24 +1,16 @@
 -- THE THEOREM `place-keeps`: the record of a placing, declined or not, is a walk's, and reads back as the placing's walk. Assumes
 -- nothing.
-use mathlib.Core.Path.{_≡_, refl}
-use mathlib.Core.Bool.{true, not}
-use mathlib.Core.List.{List}
-use Prim.Native.Nat.{ℕ, _≤_}
-use native.Mathlib.Omega.{arith}
-use lib.Dec.{eqb}
-use lib.ListN.{length}
-use borrow.Author.Tests.{eqb-true, not-false}
+use Rattle.base.specs.Kit.{_≡_, refl, true, not, List, ℕ, _≤_, arith, eqb, length, eqb-true, not-false}
 use Rattle.base.proofs.Choice.{pick-ind}
 use Rattle.key.proofs.Ikey.{padded-length}
 use Rattle.cursor.specs.CursorKey.{fromSlice}
 use Rattle.cursor.specs.RangeBound.{boundOf}
-use Rattle.cursor.specs.declared.range_bound.RangeBound.{RangeBound}
-use Rattle.scan.specs.Machine.{zeroWalk, placeFault, freshWalk, place}
-use Rattle.cursor.specs.declared.range_bound.StartMode.{StartMode}
-use Rattle.scan.specs.declared.scan_state.Placed.{Placed}
-use Rattle.scan.proofs.PlaceLaws.{placed-fits}
-use Rattle.punchbronze.specs.Record.{numbersOf, readWalk, isRecord}
-use Rattle.punchbronze.proofs.Inverse.{Arrays, record-inverse}
+use Rattle.punchbronze.specs.Types.{RangeBound, StartMode, Placed}
+use Rattle.walk.specs.Walk.{zeroWalk}
+use Rattle.walk.specs.Placing.{placeFault, freshWalk, place}
+use Rattle.walk.proofs.PlaceLaws.{placed-fits}
+use Rattle.walk_record.specs.Record.{numbersOf, readWalk, isRecord}
+use Rattle.walk_record.proofs.Inverse.{Arrays, record-inverse}
 
 zero-arrays : Arrays zeroWalk
 unfolding zeroWalk

@@ -1,5 +1,3 @@
 -- The definition files of this crate.
-pub mod Record
-pub mod Laid
-pub mod InPlace
+pub mod Types
 pub mod Interface

@@ -3,6 +3,7 @@
 // placing gives can be asked for. Every step is printed with its moves; where one is declined, with the record after it. A request's
 // form is not looked at.
 use node::le;
+use walk_record::layout;
 use requests::Read;
 use requests::first;
 use requests::item;
@@ -13,9 +14,6 @@ use requests::put_hex;
 // The requests: more than there are.
 const MOST: usize = 1000;
 
-// The numbers of a record.
-const NUMBERS: usize = 74;
-
 // An alteration: its bytes, and the index of the buffer's first byte among what it may alter.
 const WIDTH: usize = 10;
 
@@ -24,9 +22,9 @@ const BUFFER: usize = 256;
 // The steps of one request: more than are asked for.
 const STEPS: usize = 100;
 
-// One alteration: an index in two bytes and a value in eight. Below 74 it is a number's, from 256 on a byte's of the buffer.
-fn alter_one(numbers: &mut [u64; NUMBERS], buf: &mut [u8; 256], index: usize, value: u64) {
-    if index < NUMBERS {
+// One alteration: an index in two bytes and a value in eight. Below the record's numbers it is a number's, from 256 on a byte's of the buffer.
+fn alter_one(numbers: &mut [u64; layout::NUMBERS], buf: &mut [u8; 256], index: usize, value: u64) {
+    if index < layout::NUMBERS {
         numbers[index] = value;
     }
     if BUFFER <= index && index - BUFFER < 256 {
@@ -34,7 +32,7 @@ fn alter_one(numbers: &mut [u64; NUMBERS], buf: &mut [u8; 256], index: usize, va
     }
 }
 
-fn alter(numbers: &mut [u64; NUMBERS], buf: &mut [u8; 256], changes: &[u8]) {
+fn alter(numbers: &mut [u64; layout::NUMBERS], buf: &mut [u8; 256], changes: &[u8]) {
     let mut i = 0;
     while i < changes.len() / WIDTH {
         let at = i * WIDTH;
@@ -46,21 +44,21 @@ fn alter(numbers: &mut [u64; NUMBERS], buf: &mut [u8; 256], changes: &[u8]) {
 }
 
 // A record's numbers but for the image's length, the bound and what is stacked.
-fn put_numbers(numbers: &[u64; NUMBERS]) {
-    item(b" root ", numbers[1]);
-    item(b" leaf ", numbers[2]);
-    item(b" position ", numbers[3]);
-    item(b" offset ", numbers[4]);
-    item(b" length ", numbers[5]);
-    item(b" depth ", numbers[7]);
-    item(b" state ", numbers[10]);
-    item(b" mode ", numbers[11]);
+fn put_numbers(numbers: &[u64; layout::NUMBERS]) {
+    item(b" root ", numbers[layout::ROOT]);
+    item(b" leaf ", numbers[layout::LEAF]);
+    item(b" position ", numbers[layout::POSITION]);
+    item(b" offset ", numbers[layout::OFFSET]);
+    item(b" length ", numbers[layout::LEN]);
+    item(b" depth ", numbers[layout::DEPTH]);
+    item(b" state ", numbers[layout::STATE]);
+    item(b" mode ", numbers[layout::MODE]);
 }
 
 // One step; whether it handed out a key.
 fn step(
     name: &[u8],
-    numbers: &mut [u64; NUMBERS],
+    numbers: &mut [u64; layout::NUMBERS],
     buf: &mut [u8; 256],
     bound: &[u8; 256],
     image: &[u8],
@@ -88,7 +86,7 @@ fn step(
 
 fn steps(
     name: &[u8],
-    numbers: &mut [u64; NUMBERS],
+    numbers: &mut [u64; layout::NUMBERS],
     buf: &mut [u8; 256],
     bound: &[u8; 256],
     image: &[u8],
@@ -106,7 +104,7 @@ fn place(
     cursor: &[u8],
     bound_key: &[u8],
     image: &[u8],
-    numbers: &mut [u64; NUMBERS],
+    numbers: &mut [u64; layout::NUMBERS],
     buf: &mut [u8; 256],
     bound: &mut [u8; 256],
 ) -> u8 {
@@ -126,7 +124,7 @@ fn run(
     image: &[u8],
     changes: &[u8],
 ) {
-    let mut numbers = [0u64; NUMBERS];
+    let mut numbers = [0u64; layout::NUMBERS];
     let mut buf = [0u8; 256];
     let mut bound = [0u8; 256];
     let code = place(

@@ -1,6 +1,6 @@
 -- What holds of what is read. The input itself is free, and no contract can say what it has: what is fixed is that every length is
 -- that of bytes which stand in the buffer or array they were read into.
-use Prim.Native.Nat.{ℕ, _≤_}
+use Rattle.base.specs.Kit.{ℕ, _≤_}
 use Rattle.requests.specs.declared.Read.{Read}
 use Rattle.requests.specs.declared.Read.the-variants.{Number, End}
 use Rattle.requests.specs.declared.Request.{Request}

@@ -5,14 +5,11 @@
 // Interface: `read_request` and `field` read, and specs/Requests.antt has what holds of what they hand back, the input itself being free;
 // `first` cuts a buffer; `put`, `item`, `line`, `put_hex` and `put_pair` print and hand nothing back. None has a `requires`.
 use node::le;
-ghost use mathlib.Core.Path.{_≡_};
-ghost use mathlib.Core.Bool.{true};
-ghost use Prim.Native.Nat.{_≤_};
-ghost use lib.ListN.{length, take};
+ghost use Rattle.base.specs.Kit.{_≡_, true, _≤_, length, take};
 ghost use Rattle.requests.specs.Requests.{Within, Fits};
 
 // The longest line of a key: 256 bytes, a space, twenty digits and a newline.
-const LINE: usize = 534;
+pub const LINE: usize = 534;
 
 // A number of the input, or its end.
 pub enum Read {

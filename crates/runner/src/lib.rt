@@ -9,9 +9,9 @@ use requests::item;
 use requests::line;
 use requests::put;
 use requests::put_hex;
-use scan::scan_state::Answer;
-use scan::scan_state::Placed;
-use scan::scan_state::Walk;
+use walk::scan_state::Answer;
+use walk::scan_state::Placed;
+use walk::scan_state::Walk;
 use verify::Checked;
 
 // The requests: more than there are.
@@ -35,12 +35,12 @@ const STATES: u8 = 5;
 // The placing of a request: mode 0 is above, 1 from, and any other the short form.
 fn placed(mode: u8, kind: u8, cursor: &[u8], bound: &[u8], image: &[u8]) -> Placed {
     if mode == 0 {
-        return scan::place(image, StartMode::Above, cursor, kind, bound);
+        return walk::placing::place(image, StartMode::Above, cursor, kind, bound);
     }
     if mode == 1 {
-        return scan::place(image, StartMode::From, cursor, kind, bound);
+        return walk::placing::place(image, StartMode::From, cursor, kind, bound);
     }
-    scan::place_above(image, cursor, kind, bound)
+    walk::placing::place_short(image, cursor, kind, bound)
 }
 
 // A key's line: the first `len` bytes of the walk's buffer, and the value.
@@ -141,7 +141,7 @@ fn foreign(name: &[u8], walk: Walk, image: &[u8]) -> Walk {
     if image.len() < 8 {
         return walk;
     }
-    let s = scan::step(walk, first(image, image.len() - 8));
+    let s = scan::step::step(walk, first(image, image.len() - 8));
     let answer = s.answer;
     if let Answer::Declined(n) = answer {
         line(name, b" declined ", n as usize);
@@ -158,7 +158,7 @@ fn answers(name: &[u8], form: u8, walk: Walk, image: &[u8]) {
         if form == FOREIGN {
             w = foreign(name, w, image);
         }
-        let s = scan::step(w, image);
+        let s = scan::step::step(w, image);
         let answer = s.answer;
         w = s.walk;
         moves = std::num::wrapping_add_usize(moves, s.moves);

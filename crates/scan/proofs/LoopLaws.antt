@@ -1,42 +1,20 @@
 -- One turn of the loop: what it holds before it, what it has made of that when it comes to its pass, and what each outcome of
--- the pass comes to. The moves that are left always come to what all of them come to. A fast slot's pass is one of FindNext's.
--- Assumes nothing.
-use mathlib.Core.Path.{_≡_, refl, sym, _∙_, ap, subst}
-use mathlib.Core.Bool.{Bool, true, false, not, false≢true}
-use mathlib.Core.List.{List}
-use Prim.Native.Nat.{ℕ, _+_, _-_, _≤_, _<_}
-use native.Mathlib.Omega.{arith}
-use native.Mathlib.Nat.{sub-zero}
-use borrow.Author.Tests.{not-true, not-false}
-use lib.ListN.{length, take, getD, set}
+-- the pass comes to. The moves that are left always come to what all of them come to. Assumes nothing.
+use Rattle.base.specs.Kit.{_≡_, refl, sym, _∙_, ap, subst, Bool, true, false, false≢true, true≢false, and-eq-true-iff, List, ℕ, _+_, _-_, _≤_, _<_, arith, sub-zero, not-true, eqb-true, length}
 use Rattle.base.proofs.Choice.{pick-on, pick-off}
-use Rattle.base.proofs.Count.{left-more}
 use Rattle.key.specs.Part.{part}
-use Rattle.node.specs.Layout.{valueAt}
-use Rattle.node.specs.declared.permuter.Slot.{Slot}
-use Rattle.cursor.specs.RangeBound.{contains}
-use Rattle.cursor.specs.declared.cursor_key.CursorPlace.{CursorPlace}
 use Rattle.search.specs.Traversal.{leafThere}
-use Rattle.moves.specs.Moves.{Taken, onward, findNext, passIn}
-use Rattle.moves.specs.FastPath.{keyPlace, keyBuf}
-use Rattle.moves.specs.declared.scan_state.ScanState.{ScanState}
-use Rattle.moves.specs.declared.scan_state.ScanState.the-variants.{Start, Retry, FindNext, Down, Up}
-use Rattle.moves.specs.declared.scan_state.ScanCtx.{ScanCtx}
-use Rattle.moves.specs.declared.scan_state.Outcome.{Outcome}
-use Rattle.moves.specs.declared.scan_state.Outcome.the-variants.{Continue, Push, Emit, Exhausted, Fault}
-use Rattle.moves.specs.declared.scan_state.Pass.{Pass}
-use Rattle.moves.proofs.Laws.{InRange, Between, Before, After, not-up, popped-in-range, entered-in-range, pass-in-range, buffer-in-range}
-use Rattle.moves.proofs.FastLaws.{handOut, fast-facts, fast-move}
-use Rattle.scan.specs.Machine.{Scan, Moved, pushing, movedBy, entered, stacked, emptyContext, popped, unstacked, move, walkOk, scanOf, walkOf, stepped, finished}
-use Rattle.scan.specs.Loop.{isUp, poppedTo, walkWith, counted, Run, afterBy, runBy, allBy, advanceBy, advancedWith}
-use Rattle.scan.specs.declared.scan_state.LayerContext.{LayerContext}
-use Rattle.scan.specs.declared.scan_state.Walk.{Walk}
-use Rattle.scan.specs.declared.scan_state.WalkState.the-variants as walk
-use Rattle.scan.specs.declared.scan_state.Answer.the-variants.{Key, Nothing, Declined}
-use Rattle.scan.specs.declared.forward_ctx.Advanced.{Advanced}
-use Rattle.scan.proofs.WalkLaws.{walk-fits, starts-between}
+use Rattle.moves.specs.Moves.{passIn, InRange}
+use Rattle.scan.specs.Types.{ScanState, ScanStateStart as Start, ScanStateRetry as Retry, ScanStateFindNext as FindNext, Down, Up, ScanCtx, Outcome, Continue, Push, Emit, Exhausted, OutcomeFault as Fault, Pass, LayerContext, Walk, Answer, Key, Nothing, Declined, Along, Advanced}
+use Rattle.moves.proofs.Laws.{Between, Before, After, not-up, popped-in-range, entered-in-range, pass-in-range, buffer-in-range}
+use Rattle.walk.specs.Walk.{walkOk}
+use Rattle.scan.specs.Machine.{Scan, isUp, pushing, movedBy, entered, stacked, popped, unstacked, move, scanState, scanOf}
+use Rattle.scan.specs.Loop.{counted, Run, afterBy, runBy, allBy, advanceBy, advancedOf, isNext, isAlong, AfterKey, isSlow, leftAnswer, AlongFrom}
+use Rattle.walk.specs.declared.scan_state.WalkState.the-variants as walk
+use Rattle.walk.proofs.NumberLaws.{walk-fits}
+use Rattle.scan.proofs.BeginLaws.{starts-between}
 use Rattle.scan.proofs.MoveLaws.{up-state, other-state, pass-is, up-is, end-is}
-use Rattle.scan.proofs.FastAt.{OnPath}
+use Rattle.scan.proofs.RunLaws.{turn}
 
 between-deep : (state : ScanState) (c : ScanCtx) → Between state c → c .depth ≤ 31
 between-deep (Start mode) c h = h .deep
@@ -45,13 +23,21 @@ between-deep FindNext c h = h .deep
 between-deep Down c h = h .1
 between-deep Up c h = h .deep
 
--- the layer's place in the buffer leaves room for an ikey
-between-place : (state : ScanState) (c : ScanCtx) → Between state c → c .cursor .offset ≤ 248
-between-place (Start mode) c h = omega (arith, h .place, h .deep)
-between-place Retry c h = omega (arith, h .place, h .deep)
-between-place FindNext c h = omega (arith, h .place, h .deep)
-between-place Down c h = omega (arith, h .2 .place, h .2 .deep)
-between-place Up c h = omega (arith, h .place, h .deep)
+next-state : (state : ScanState) → isNext state ≡ true → state ≡ FindNext
+next-state (Start mode) e = absurd (false≢true e)
+next-state Retry e = absurd (false≢true e)
+next-state FindNext e = refl
+next-state Down e = absurd (false≢true e)
+next-state Up e = absurd (false≢true e)
+
+-- a whole walk right after a key
+pub along-so : (c : ScanCtx) (whole : Bool) → isAlong c whole ≡ true → (whole ≡ true) × AfterKey c
+unfolding isAlong
+along-so c whole e =
+    let w = and-eq-true-iff _ _ .0 e in
+    let n = and-eq-true-iff _ _ .0 (w .1) in
+    let d = and-eq-true-iff _ _ .0 (n .1) in
+    (w .0, record { next = next-state (c .state) (n .0); not-due = not-true (c .dup) (d .0); last-is = eqb-true _ _ (d .1) })
 
 module _ (whole : Bool) (w : Walk) (image : List ℕ) (kind : ℕ) (bound : List ℕ) where
   -- the moves that are left, n of them
@@ -59,19 +45,20 @@ module _ (whole : Bool) (w : Walk) (image : List ℕ) (kind : ℕ) (bound : List
   left = runBy whole image kind bound
 
   -- What the loop holds after some moves.
-  pub record Held (s : Scan) (moves keys : ℕ) (there : Bool) : Type 0 where
+  pub record Held (s : Scan) (moves keys : ℕ) (tested : Bool) : Type 0 where
     pub within : moves ≤ length image
     pub few : keys ≤ moves
     pub same : left (length image - moves) keys moves s ≡ allBy whole w image
     pub fits : Between (s .ctx .state) (s .ctx)
     pub long : length (s .buf) ≡ 256
     pub deep : s .ctx .depth ≤ 31
-    pub known : there ≡ true → leafThere image (s .ctx .leaf) ≡ true
+    pub known : tested ≡ true → (s .ctx .state ≡ FindNext) × (leafThere image (s .ctx .leaf) ≡ true)
 
   -- It has come to its pass, with c and stack: the move from s is that pass, and the pass's numbers are in range.
-  pub record Ready (s : Scan) (c : ScanCtx) (stack : List LayerContext) : Type 0 where
+  pub record Ready (s : Scan) (tested : Bool) (c : ScanCtx) (stack : List LayerContext) : Type 0 where
     pub is : move image kind bound s ≡ movedBy stack (passIn (c .state) image kind bound (s .buf) c)
     pub fits : Before (c .state) c
+    pub there : tested ≡ true → leafThere image (c .leaf) ≡ true
 
   -- It has made its pass p, and the buffer is b now.
   pub record Made (p : Pass) (b : List ℕ) (stack : List LayerContext) (moves keys : ℕ) : Type 0 where
@@ -85,63 +72,102 @@ module _ (whole : Bool) (w : Walk) (image : List ℕ) (kind : ℕ) (bound : List
         ≡ allBy whole w image
 
   -- what all the moves come to, by what those that are left do
-  comes : (r : Run) → r ≡ allBy whole w image → record { keys = r .keys; stepped = finished w (r .ran) } ≡ advanceBy whole w image
+  comes : (r : Run) → r ≡ allBy whole w image → advancedOf w r ≡ advanceBy whole w image
   unfolding advanceBy
-  comes r e = ap (λ (x : Run). record { keys = x .keys; stepped = finished w (x .ran) }) e
+  comes r e = ap (advancedOf w) e
 
   -- before the first move
   pub begins : walkOk w (length image) ≡ true → length (w .cursor .buf) ≡ 256 → kind ≡ w .bound .kind → bound ≡ part (w .bound .key) 0 (w .bound .len)
-      → Held (scanOf w) 0 0 false
+      → (begun : Bool) → (begun ≡ true → (w .state ≡ walk.FindNext) × (leafThere image (w .leaf) ≡ true)) → Held (scanOf w) 0 0 begun
   unfolding part scanOf allBy
-  begins ok l k b = record {
+  begins ok l k b begun t = record {
     within = omega arith;
     few = omega arith;
     same = rw (k, b, sub-zero);
     fits = starts-between w (length image) ok;
     long = l;
     deep = walk-fits w (length image) ok .depth-fits;
-    known = λ e. absurd (false≢true e);
+    known = λ e. (ap (scanState (w .mode)) (t e .0), t e .1);
   }
 
-  module _ (s : Scan) (moves keys : ℕ) (there : Bool) (h : Held s moves keys there) where
-    pub room : s .ctx .cursor .offset ≤ 248
-    room = between-place (s .ctx .state) (s .ctx) (h .fits)
+  -- In a turn, past the moves along a leaf: a move is left, and none of those that were made before the turn is lost.
+  pub record Turning (stack : List LayerContext) (before : ℕ) (c : ScanCtx) (b : List ℕ) (moves keys : ℕ) (tested : Bool) : Type 0 where
+    pub held : Held (record { ctx = c; buf = b; stack = stack }) moves keys tested
+    pub more : moves < length image
+    pub grows : before ≤ moves
 
+  -- where none was made
+  pub not-along : (s : Scan) (moves keys : ℕ) (tested : Bool) → Held s moves keys tested → moves < length image
+      → (b′ : List ℕ) (c′ : ScanCtx) (moves′ keys′ : ℕ) (tested′ : Bool) → b′ ≡ s .buf → c′ ≡ s .ctx → moves′ ≡ moves → keys′ ≡ keys → tested′ ≡ tested
+      → Turning (s .stack) moves c′ b′ moves′ keys′ tested′
+  not-along s moves keys tested h more b′ c′ moves′ keys′ tested′ eb ec em ek et =
+      rw (eb, ec, em, ek, et) (record { held = h; more = more; grows = omega arith })
+
+  -- ALONG A LEAF: a is what the moves along it came to, and b the buffer
+  module _ (s : Scan) (moves keys : ℕ) (tested : Bool) (h : Held s moves keys tested) (e : isAlong (s .ctx) whole ≡ true) where
+    pub in-layer : InRange (s .ctx .depth) (s .ctx)
+    in-layer = subst (λ (x : ScanState). Between x (s .ctx)) (along-so (s .ctx) whole e .1 .next) (h .fits)
+
+    module _ (a : Along) (b : List ℕ) (f : AlongFrom image kind bound (s .buf) (s .ctx) keys moves a b) where
+      all-so : (t : Bool) → whole ≡ t → runBy t image kind bound (length image - moves) keys moves s ≡ allBy whole w image
+      all-so t u = ap (λ (x : Bool). runBy x image kind bound (length image - moves) keys moves s) (sym u) ∙ h .same
+
+      -- the loop goes on with a move that has tested its leaf
+      pub along-on : isSlow (a .end) ≡ true
+          → (b′ : List ℕ) (c′ : ScanCtx) (moves′ keys′ : ℕ) (tested′ : Bool) → b′ ≡ b → c′ ≡ a .ctx → moves′ ≡ a .moves → keys′ ≡ a .keys → tested′ ≡ true
+          → Turning (s .stack) moves c′ b′ moves′ keys′ tested′
+      along-on g b′ c′ moves′ keys′ tested′ eb ec em ek et =
+          rw (eb, ec, em, ek, et) (record {
+            held = record {
+              within = f .within;
+              few = f .few;
+              same =
+                  ap (λ (t : Bool). runBy t image kind bound (length image - a .moves) (a .keys) (a .moves) (record { ctx = a .ctx; buf = b; stack = s .stack })) (along-so (s .ctx) whole e .0)
+                  ∙ pick-on _ (isSlow (a .end)) refl _ _ _ g refl ∙ f .same (s .stack) ∙ all-so true (along-so (s .ctx) whole e .0);
+              fits = subst (λ (x : ScanState). Between x (a .ctx)) (sym (f .after .next)) (f .in-range);
+              long = f .long;
+              deep = f .in-range .deep;
+              known = λ t. (f .after .next, f .tested g .1);
+            };
+            more = f .tested g .0;
+            grows = f .grows;
+          })
+
+      -- the loop ends
+      pub along-ends : isSlow (a .end) ≡ false → (answer : Answer) → answer ≡ leftAnswer (a .end)
+          → (r : Advanced) → r ≡ advancedOf w (record { keys = a .keys; ran = record { answer = answer; moves = a .moves; scan = record { ctx = a .ctx; buf = b; stack = s .stack } } })
+          → r ≡ advanceBy whole w image
+      along-ends g answer u r v =
+          v ∙ rw u (comes _ (pick-off _ (isSlow (a .end)) refl _ _ _ g refl ∙ f .same (s .stack) ∙ all-so true (along-so (s .ctx) whole e .0)))
+
+  module _ (s : Scan) (moves keys : ℕ) (tested : Bool) (h : Held s moves keys tested) where
     -- no move is left
-    pub none : length image ≤ moves → (r : Advanced) → r ≡ advancedWith keys (Declined 23) 0 w → r ≡ advanceBy whole w image
-    unfolding advancedWith finished stepped runBy
+    pub none : length image ≤ moves → (r : Advanced) → r ≡ advancedOf w (record { keys = keys; ran = record { answer = Declined 23; moves = moves; scan = s } })
+        → r ≡ advanceBy whole w image
+    unfolding runBy
     none l r e = let z : length image - moves ≡ 0 = omega arith in e ∙ comes _ (rw z at (h .same))
 
     module _ (more : moves < length image) where
-      turn : (m : Moved) → move image kind bound s ≡ m
-          → afterBy whole (m .outcome) (counted (m .outcome) keys) (moves + 1) (m .scan) (left (length image - (moves + 1)) (counted (m .outcome) keys) (moves + 1) (m .scan))
-          ≡ allBy whole w image
-      unfolding runBy
-      turn m e = rw (left-more (length image) moves more, e) at (h .same)
-
       -- Up from the first layer
       pub ends : isUp (s .ctx .state) ≡ true → s .ctx .depth ≡ 0
-          → (next : Walk) → next ≡ walkWith (w .«image_len») (w .bound) (w .mode) walk.Ended (s .ctx) (s .buf) (s .stack)
-          → (r : Advanced) → r ≡ advancedWith keys Nothing (moves + 1) next → r ≡ advanceBy whole w image
-      unfolding advancedWith finished stepped afterBy counted walkOf walkWith
-      ends u d next e r f =
-          f ∙ rw e (comes _ (turn (record { outcome = Exhausted; scan = s }) (end-is image kind bound s u d)))
+          → (r : Advanced) → r ≡ advancedOf w (record { keys = keys; ran = record { answer = Nothing; moves = moves + 1; scan = s } }) → r ≡ advanceBy whole w image
+      unfolding afterBy counted
+      ends u d r f = f ∙ comes _ (sym (turn image kind bound whole moves keys s _ _ more (end-is image kind bound s u d)) ∙ h .same)
 
     module _ (c : ScanCtx) (stack : List LayerContext) where
       -- no layer is taken back
-      pub stays : isUp (s .ctx .state) ≡ false → c ≡ s .ctx → stack ≡ s .stack → Ready s c stack
-      stays u e f = rw (e, f) (record { is = pass-is image kind bound s u; fits = not-up _ _ (other-state _ u) (h .fits) })
+      pub stays : isUp (s .ctx .state) ≡ false → c ≡ s .ctx → stack ≡ s .stack → Ready s tested c stack
+      stays u e f = rw (e, f) (record { is = pass-is image kind bound s u; fits = not-up (s .ctx .state) (s .ctx) (other-state (s .ctx .state) u) (h .fits); there = λ t. h .known t .1 })
 
       -- the layer above is taken back
       pub pops : isUp (s .ctx .state) ≡ true → (s .ctx .depth ≡ 0 → ⊥)
-          → c ≡ poppedTo (s .ctx) (getD (s .stack) (s .ctx .depth - 1) emptyContext) → stack ≡ set (s .stack) (s .ctx .depth - 1) emptyContext → Ready s c stack
-      unfolding poppedTo popped unstacked
+          → c ≡ popped (s .ctx) (s .stack) → stack ≡ unstacked (s .ctx) (s .stack) → Ready s tested c stack
       pops u d e f =
           let up : s .ctx .state ≡ Up = up-state (s .ctx .state) u in
           let r : InRange (s .ctx .depth) (s .ctx) = subst (λ (x : ScanState). Between x (s .ctx)) up (h .fits) in
-          rw (e, f) (record { is = up-is image kind bound s u d; fits = rw up (popped-in-range (s .ctx) _ refl refl r (omega arith) refl) })
+          rw (e, f) (record { is = up-is image kind bound s u d; fits = rw up (popped-in-range (s .ctx) _ refl refl r (omega arith) refl); there = λ t. absurd (true≢false (sym u ∙ ap isUp (h .known t .0))) })
 
-      module _ (r : Ready s c stack) (more : moves < length image) (p : Pass) (b : List ℕ) where
+      module _ (r : Ready s tested c stack) (more : moves < length image) (p : Pass) (b : List ℕ) where
         pub made : p ≡ passIn (c .state) image kind bound (s .buf) c .pass → b ≡ passIn (c .state) image kind bound (s .buf) c .buf → Made p b stack moves keys
         unfolding movedBy
         made e f = record {
@@ -149,21 +175,8 @@ module _ (whole : Bool) (w : Walk) (image : List ℕ) (kind : ℕ) (bound : List
           few = h .few;
           after = pass-in-range (c .state) image kind bound (s .buf) c (r .fits) (h .long) p e;
           long = buffer-in-range (c .state) image kind bound (s .buf) c (r .fits) (h .long) b f;
-          same = λ o g. turn more _ (r .is ∙ (rw (← e, ← f, g)));
+          same = λ o g. sym (turn image kind bound whole moves keys s _ _ more (r .is ∙ (rw (← e, ← f, g)))) ∙ h .same;
         }
-
-    -- a fast slot: K and B are cursor and buffer with its key
-    module _ (more : moves < length image) (slot : Slot) (f : OnPath image (s .ctx) slot) where
-      abbrev K : CursorPlace
-      K = keyPlace image (s .ctx .leaf) slot (s .ctx .cursor)
-
-      abbrev B : List ℕ
-      B = keyBuf image (s .ctx .leaf) slot (s .ctx .cursor .offset) (s .buf)
-
-      pub made-fast : Made (handOut image kind bound B (s .ctx) slot K) B (s .stack) moves keys
-      made-fast =
-          let g : passIn (s .ctx .state) image kind bound (s .buf) (s .ctx) ≡ record { pass = handOut image kind bound B (s .ctx) slot K; buf = B } = f .passes kind bound (s .buf) ∙ fast-move image kind bound (s .buf) (s .ctx) (f .not-due) (f .last-is) slot (f .slot-is) in
-          made (s .ctx) (s .stack) (stays (s .ctx) (s .stack) (f .not-up-state) refl refl) more _ _ (sym (ap (λ (x : Taken). x .pass) g)) (sym (ap (λ (x : Taken). x .buf) g))
 
   module _ (p : Pass) (b : List ℕ) (stack : List LayerContext) (moves keys : ℕ) (m : Made p b stack moves keys) where
     pub goes-on : p .outcome ≡ Continue → Held (record { ctx = p .ctx; buf = b; stack = stack }) (moves + 1) keys false
@@ -180,7 +193,7 @@ module _ (whole : Bool) (w : Walk) (image : List ℕ) (kind : ℕ) (bound : List
 
     pub enters : (root : ℕ) → p .outcome ≡ Push root → (c : ScanCtx) → c ≡ entered root (p .ctx)
         → Held (record { ctx = c; buf = b; stack = stacked (p .ctx) stack }) (moves + 1) keys false
-    unfolding pushing afterBy counted entered
+    unfolding pushing afterBy counted
     enters root e c f =
         let l = m .after (Push root) e in
         rw f (record {
@@ -194,10 +207,9 @@ module _ (whole : Bool) (w : Walk) (image : List ℕ) (kind : ℕ) (bound : List
         })
 
     -- a key is counted, and the loop goes on
-    pub counts : whole ≡ true → (value : ℕ) → p .outcome ≡ Emit value → (there : Bool) → (there ≡ true → leafThere image (p .ctx .leaf) ≡ true)
-        → Held (record { ctx = p .ctx; buf = b; stack = stack }) (moves + 1) (keys + 1) there
+    pub counts : whole ≡ true → (value : ℕ) → p .outcome ≡ Emit value → Held (record { ctx = p .ctx; buf = b; stack = stack }) (moves + 1) (keys + 1) false
     unfolding pushing afterBy counted
-    counts t value e there f =
+    counts t value e =
         let l = m .after (Emit value) e in
         let i : InRange (p .ctx .depth) (p .ctx) = l .1 in
         record {
@@ -207,45 +219,19 @@ module _ (whole : Bool) (w : Walk) (image : List ℕ) (kind : ℕ) (bound : List
           fits = subst (λ (x : ScanState). Between x (p .ctx)) (sym (l .0)) i;
           long = m .long;
           deep = i .deep;
-          known = f;
+          known = λ f. absurd (false≢true f);
         }
 
-    module _ (next : Walk) (r : Advanced) where
-      pub emits : whole ≡ false → (value : ℕ) → p .outcome ≡ Emit value → next ≡ walkWith (w .«image_len») (w .bound) (w .mode) walk.FindNext (p .ctx) b stack
-          → r ≡ advancedWith (keys + 1) (Key (p .ctx .cursor .offset + p .ctx .cursor .len) value) (moves + 1) next → r ≡ advanceBy whole w image
-      unfolding advancedWith finished stepped pushing afterBy counted walkOf walkWith
-      emits t value e f g = g ∙ rw f (comes _ (pick-off whole whole refl _ _ _ t refl ∙ m .same (Emit value) e))
+    -- the loop ends, with the answer a
+    module _ (a : Answer) (r : Advanced) (k : ℕ) (g : r ≡ advancedOf w (record { keys = k; ran = record { answer = a; moves = moves + 1; scan = record { ctx = p .ctx; buf = b; stack = stack } } })) where
+      pub emits : whole ≡ false → (value : ℕ) → p .outcome ≡ Emit value → a ≡ Key (p .ctx .cursor .offset + p .ctx .cursor .len) value → k ≡ keys + 1 → r ≡ advanceBy whole w image
+      unfolding pushing afterBy counted
+      emits t value e u v = g ∙ rw (u, v) (comes _ (pick-off whole whole refl _ _ _ t refl ∙ m .same (Emit value) e))
 
-      pub exhausts : p .outcome ≡ Exhausted → next ≡ walkWith (w .«image_len») (w .bound) (w .mode) walk.Ended (p .ctx) b stack
-          → r ≡ advancedWith keys Nothing (moves + 1) next → r ≡ advanceBy whole w image
-      unfolding advancedWith finished stepped pushing afterBy counted walkOf walkWith
-      exhausts e f g = g ∙ rw f (comes _ (m .same Exhausted e))
+      pub exhausts : p .outcome ≡ Exhausted → a ≡ Nothing → k ≡ keys → r ≡ advanceBy whole w image
+      unfolding pushing afterBy counted
+      exhausts e u v = g ∙ rw (u, v) (comes _ (m .same Exhausted e))
 
-    pub faults : p .outcome ≡ Fault → (r : Advanced) → r ≡ advancedWith keys (Declined 22) 0 w → r ≡ advanceBy whole w image
-    unfolding advancedWith finished stepped pushing afterBy counted
-    faults e r g = g ∙ comes _ (m .same Fault e)
-
-  -- A FAST SLOT, as the loop takes it: k, b and c are the cursor, the buffer and the walk with its key, and r says whether the bound
-  -- admits the key t.
-  module _ (s : Scan) (moves keys : ℕ) (there : Bool) (h : Held s moves keys there) (more : moves < length image) (slot : Slot) (f : (whole ≡ true) × OnPath image (s .ctx) slot)
-      (k : CursorPlace) (ek : k ≡ keyPlace image (s .ctx .leaf) slot (s .ctx .cursor)) (b : List ℕ) (eb : b ≡ keyBuf image (s .ctx .leaf) slot (s .ctx .cursor .offset) (s .buf))
-      (c : ScanCtx) (ec : c ≡ onward (s .ctx) k (k .ikey)) (t : List ℕ) (et : t ≡ part b 0 (k .offset + k .len)) (r : Bool) (er : r ≡ contains kind bound t) where
-    tested : r ≡ contains kind bound (take (K s moves keys there h more slot (f .1) .offset + K s moves keys there h more slot (f .1) .len) (B s moves keys there h more slot (f .1)))
-    unfolding part
-    tested = er ∙ (rw (et, eb, ek))
-
-    -- within the bound
-    pub takes-fast : not r ≡ false → Held (record { ctx = c; buf = b; stack = s .stack }) (moves + 1) (keys + 1) true
-    unfolding onward
-    takes-fast n =
-        let m : Made (record { outcome = Emit (valueAt image (s .ctx .leaf) slot); ctx = onward (s .ctx) (K s moves keys there h more slot (f .1)) (K s moves keys there h more slot (f .1) .ikey) }) (B s moves keys there h more slot (f .1)) (s .stack) moves keys =
-        subst (λ (p : Pass). Made p (B s moves keys there h more slot (f .1)) (s .stack) moves keys) (sym (pick-on _ r tested _ _ _ (not-false r n) refl)) (made-fast s moves keys there h more slot (f .1)) in
-        rw (ec, ek, eb) (counts _ _ _ _ _ m (f .0) _ refl true (λ y. fast-facts image _ _ _ slot (f .1 .slot-is) .there))
-
-    -- past it
-    pub ends-fast : not r ≡ true → (next : Walk) → next ≡ walkWith (w .«image_len») (w .bound) (w .mode) walk.Ended c b (s .stack)
-        → (a : Advanced) → a ≡ advancedWith keys Nothing (moves + 1) next → a ≡ advanceBy whole w image
-    ends-fast n next en a ea =
-        let m : Made (record { outcome = Exhausted; ctx = onward (s .ctx) (K s moves keys there h more slot (f .1)) (K s moves keys there h more slot (f .1) .ikey) }) (B s moves keys there h more slot (f .1)) (s .stack) moves keys =
-        subst (λ (p : Pass). Made p (B s moves keys there h more slot (f .1)) (s .stack) moves keys) (sym (pick-off _ r tested _ _ _ (not-true r n) refl)) (made-fast s moves keys there h more slot (f .1)) in
-        exhausts _ _ _ _ _ m next a refl (en ∙ (rw (ec, ek, eb))) ea
+      pub faults : p .outcome ≡ Fault → a ≡ Declined 22 → k ≡ keys → r ≡ advanceBy whole w image
+      unfolding pushing afterBy counted
+      faults e u v = g ∙ rw (u, v) (comes _ (m .same Fault e))

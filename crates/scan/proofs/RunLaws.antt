@@ -1,17 +1,12 @@
--- The loop's run, which counts as it goes: to the next key it is the machine's run, and past every key it counts what the moves
--- hand out. By induction on the moves that are left. Assumes nothing.
-use mathlib.Core.Path.{_≡_, refl, ap}
-use mathlib.Core.Bool.{Bool, true, false, _&&_}
-use mathlib.Core.List.{List}
-use Prim.Native.Nat.{ℕ, zero, suc, _+_}
-use native.Mathlib.Omega.{arith}
-use lib.ListN.{length, take}
+-- The loop's run, which counts as it goes: to the next key it is the machine's run, by induction on the moves that are left. Assumes
+-- nothing.
+use Rattle.base.specs.Kit.{_≡_, refl, ap, Bool, true, false, _&&_, List, ℕ, zero, suc, _+_, _-_, _<_, length}
 use Rattle.base.specs.Pick.{pick}
-use Rattle.moves.specs.declared.scan_state.Outcome.{Outcome}
-use Rattle.moves.specs.declared.scan_state.Outcome.the-variants.{Continue, Push, Emit, Exhausted, Fault}
-use Rattle.scan.specs.Machine.{Scan, move, after, run, walkOk, isEnded, scanOf, finished}
-use Rattle.scan.specs.Loop.{counted, afterBy, runBy, allBy, advance, advanceBy, countedOn, keysIn, keysAhead, keysLeft}
-use Rattle.scan.specs.declared.scan_state.Walk.{Walk}
+use Rattle.base.proofs.Count.{left-more}
+use Rattle.scan.specs.Types.{Outcome, Continue, Push, Emit, Exhausted, OutcomeFault as Fault, Walk}
+use Rattle.walk.specs.Walk.{walkOk}
+use Rattle.scan.specs.Machine.{Scan, move, after, run, isEnded, finished, advance}
+use Rattle.scan.specs.Loop.{counted, afterBy, runBy, allBy, advanceBy, keysAhead, keysLeft}
 
 module _ (image : List ℕ) (kind : ℕ) (bound : List ℕ) where
   abbrev ToKey : ℕ → Type 0
@@ -32,23 +27,13 @@ module _ (image : List ℕ) (kind : ℕ) (bound : List ℕ) where
   to-key zero keys moves s = refl
   to-key (suc n) keys moves s = key-after n (to-key n) keys (moves + 1) (move image kind bound s .scan) (move image kind bound s .outcome)
 
-  abbrev ToEnd : ℕ → Type 0
-  ToEnd n = (keys moves : ℕ) (s : Scan) → runBy true image kind bound n keys moves s .keys ≡ keys + keysIn image kind bound n s
-
-  end-after : (n : ℕ) → ToEnd n → (keys moves : ℕ) (next : Scan) (o : Outcome)
-      → afterBy true o (counted o keys) moves next (runBy true image kind bound n (counted o keys) moves next) .keys
-      ≡ keys + countedOn o (keysIn image kind bound n next)
-  unfolding afterBy counted countedOn pick
-  end-after n h keys moves next Continue = h keys moves next
-  end-after n h keys moves next (Push root) = h keys moves next
-  end-after n h keys moves next (Emit value) = omega (arith, h (keys + 1) moves next)
-  end-after n h keys moves next Exhausted = omega arith
-  end-after n h keys moves next Fault = omega arith
-
-  to-end : (n : ℕ) → ToEnd n
-  unfolding runBy keysIn
-  to-end zero keys moves s = omega arith
-  to-end (suc n) keys moves s = end-after n (to-end n) keys (moves + 1) (move image kind bound s .scan) (move image kind bound s .outcome)
+  -- ONE MOVE of a run that has moves left, which comes to o with the scan t
+  pub turn : (whole : Bool) (moves keys : ℕ) (s : Scan) (o : Outcome) (t : Scan) → moves < length image
+      → move image kind bound s ≡ record { outcome = o; scan = t }
+      → runBy whole image kind bound (length image - moves) keys moves s
+      ≡ afterBy whole o (counted o keys) (moves + 1) t (runBy whole image kind bound (length image - (moves + 1)) (counted o keys) (moves + 1) t)
+  unfolding runBy
+  turn whole moves keys s o t more e = rw (left-more (length image) moves more, e)
 
 and-false-right : (b : Bool) → b && false ≡ false
 and-false-right true = refl
@@ -58,10 +43,6 @@ module _ (w : Walk) (image : List ℕ) where
   pub steps-so : advanceBy false w image .stepped ≡ advance w image
   unfolding advanceBy allBy advance
   steps-so = ap (finished w) (to-key image _ _ _ 0 0 _)
-
-  pub counts-so : advanceBy true w image .keys ≡ keysAhead w image
-  unfolding advanceBy allBy keysAhead
-  counts-so = omega (arith, to-end image (w .bound .kind) (take (w .bound .len) (w .bound .key)) (length image) 0 0 (scanOf w))
 
   -- the count, by the two tests that stand before its moves
   pub none-declined : walkOk w (length image) ≡ false → 0 ≡ keysLeft w image

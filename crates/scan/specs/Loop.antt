@@ -1,68 +1,12 @@
--- The loop as its functions have it: the layer above taken back, the walk put together again, and the run that counts as it goes.
--- specs/Machine.antt says what a step comes to; proofs/RunLaws.antt has that this run is the machine's, and counts what its moves hand
--- out.
-use mathlib.Core.Bool.{Bool, true, false, not, _&&_}
-use mathlib.Core.List.{List}
-use mathlib.Core.Path.{_≡_}
-use Prim.Native.Nat.{ℕ, zero, suc, _+_, _-_}
-use lib.Dec.{eqb}
-use lib.ListN.{length, take}
-use Rattle.cursor.specs.declared.range_bound.RangeBound.{RangeBound}
+-- The loop as its functions have it: the run that counts as it goes, and the moves along a leaf. specs/Machine.antt says what a step
+-- comes to; proofs/RunLaws.antt has that this run is the machine's.
+use Rattle.base.specs.Kit.{Bool, true, false, not, _&&_, List, _≡_, ℕ, zero, suc, _+_, _-_, _≤_, _<_, eqb, length, take}
 use Rattle.base.specs.Pick.{pick}
-use Rattle.cursor.specs.declared.range_bound.StartMode.{StartMode}
-use Rattle.scan.specs.Machine.{Scan, move, Ran, run, walkOk, isEnded, scanOf, finished}
-use Rattle.scan.specs.declared.scan_state.LayerContext.{LayerContext}
-use Rattle.scan.specs.declared.scan_state.WalkState.{WalkState}
-use Rattle.scan.specs.declared.scan_state.Walk.{Walk}
-use Rattle.moves.specs.FastPath.{fastSlot}
-use Rattle.moves.specs.declared.fast_path.FastSlot.{FastSlot}
-use Rattle.moves.specs.declared.fast_path.FastSlot.the-variants.{Slow}
-use Rattle.moves.specs.declared.scan_state.ScanState.{ScanState}
-use Rattle.moves.specs.declared.scan_state.ScanState.the-variants.{Start, Retry, FindNext, Down, Up}
-use Rattle.moves.specs.declared.scan_state.ScanCtx.{ScanCtx}
-use Rattle.moves.specs.declared.scan_state.Outcome.{Outcome}
-use Rattle.moves.specs.declared.scan_state.Outcome.the-variants.{Continue, Push, Emit, Exhausted, Fault}
-use Rattle.scan.specs.declared.scan_state.Answer.{Answer}
-use Rattle.scan.specs.declared.scan_state.Answer.the-variants.{Key, Nothing, Declined}
-use Rattle.scan.specs.declared.scan_state.Stepped.{Stepped}
-use Rattle.scan.specs.declared.forward_ctx.Advanced.{Advanced}
-
-unfoldable pub isUp : ScanState → Bool
-isUp (Start mode) = false
-isUp Retry = false
-isUp FindNext = false
-isUp Down = false
-isUp Up = true
-
-unfoldable pub poppedTo : ScanCtx → LayerContext → ScanCtx
-poppedTo c parent = record {
-  root = parent .root;
-  leaf = parent .leaf;
-  position = c .position;
-  cursor = c .cursor;
-  depth = c .depth - 1;
-  state = c .state;
-  dup = c .dup;
-  last = c .last;
-}
-
-unfoldable pub walkWith : ℕ → RangeBound → StartMode → WalkState → ScanCtx → List ℕ → List LayerContext → Walk
-walkWith imageLen bound mode state c buf stack = record {
-  «image_len» = imageLen;
-  root = c .root;
-  leaf = c .leaf;
-  position = c .position;
-  cursor = record { buf = buf; offset = c .cursor .offset; len = c .cursor .len; ikey = c .cursor .ikey };
-  depth = c .depth;
-  stack = stack;
-  bound = bound;
-  mode = mode;
-  state = state;
-}
-
--- What a step comes to where 21 is not met and the walk is not ended.
-unfoldable pub advance : Walk → List ℕ → Stepped
-advance w image = finished w (run image (w .bound .kind) (take (w .bound .len) (w .bound .key)) (length image) 0 (scanOf w))
+use Rattle.search.specs.Traversal.{leafThere}
+use Rattle.moves.specs.Moves.{InRange}
+use Rattle.scan.specs.Types.{ScanState, ScanStateStart as Start, ScanStateRetry as Retry, ScanStateFindNext as FindNext, Down, Up, ScanCtx, Outcome, Continue, Push, Emit, Exhausted, OutcomeFault as Fault, LayerContext, Walk, Answer, Key, Nothing, Declined, LeafEnd, Slow, LeafEndPast as Past, LeafEndFault as Gone, Spent, Along, Advanced}
+use Rattle.walk.specs.Walk.{walkOk}
+use Rattle.scan.specs.Machine.{Scan, move, Ran, isEnded, scanOf, finished}
 
 -- THE LOOP ITSELF, which goes to the next key (a step), or past every key (`whole`: a count). How many keys are out after a move, n
 -- before it.
@@ -97,44 +41,66 @@ runBy whole image kind bound (suc n) keys moves s =
 unfoldable pub allBy : Bool → Walk → List ℕ → Run
 allBy whole w image = runBy whole image (w .bound .kind) (take (w .bound .len) (w .bound .key)) (length image) 0 0 (scanOf w)
 
+-- What the loop's run comes to for its walk.
+abbrev pub advancedOf : Walk → Run → Advanced
+advancedOf w r = record { keys = r .keys; stepped = finished w (r .ran) }
+
 unfoldable pub advanceBy : Bool → Walk → List ℕ → Advanced
-advanceBy whole w image = record { keys = allBy whole w image .keys; stepped = finished w (allBy whole w image .ran) }
+advanceBy whole w image = advancedOf w (allBy whole w image)
 
-unfoldable pub advancedWith : ℕ → Answer → ℕ → Walk → Advanced
-advancedWith keys answer moves w = record { keys = keys; stepped = record { answer = answer; moves = moves; walk = w } }
-
--- THE COUNT. How many keys n moves hand out before the end or 22.
-unfoldable pub countedOn : Outcome → ℕ → ℕ
-countedOn Continue rest = rest
-countedOn (Push root) rest = rest
-countedOn (Emit value) rest = suc rest
-countedOn Exhausted rest = 0
-countedOn Fault rest = 0
-
-unfoldable pub keysIn : List ℕ → ℕ → List ℕ → ℕ → Scan → ℕ
-keysIn image kind bound zero s = 0
-keysIn image kind bound (suc n) s =
-    let m = move image kind bound s in
-    let rest = keysIn image kind bound n (m .scan) in
-    countedOn (m .outcome) rest
-
--- The same of a walk, in as many moves as the image has bytes.
+-- THE COUNT. How many keys the moves of a walk hand out before the end, 22 or 23; none where it is declined with 21, or ended.
 unfoldable pub keysAhead : Walk → List ℕ → ℕ
-keysAhead w image = keysIn image (w .bound .kind) (take (w .bound .len) (w .bound .key)) (length image) (scanOf w)
+keysAhead w image = allBy true w image .keys
 
--- None where the walk is declined with 21, or ended.
 unfoldable pub keysLeft : Walk → List ℕ → ℕ
 keysLeft w image = pick (walkOk w (length image) && not (isEnded (w .state))) (keysAhead w image) 0
 
--- THE FAST PATH, which a count takes right after a key: no duplicate check is due, and the cursor has the last ikey.
-unfoldable pub isNext : ScanState → Bool
+-- ALONG A LEAF, by the fast path, which a count takes right after a key: no duplicate check is due, and the cursor has the last ikey.
+abbrev pub isNext : ScanState → Bool
 isNext (Start mode) = false
 isNext Retry = false
 isNext FindNext = true
 isNext Down = false
 isNext Up = false
 
-unfoldable pub fastAt : Bool → List ℕ → ScanCtx → FastSlot
-fastAt whole image c =
-    pick (whole && (isNext (c .state) && (not (c .dup) && eqb (c .last) (c .cursor .ikey))))
-    (fastSlot image (c .leaf) (c .position) (c .cursor)) Slow
+unfoldable pub isAlong : ScanCtx → Bool → Bool
+isAlong c whole = whole && (isNext (c .state) && (not (c .dup) && eqb (c .last) (c .cursor .ikey)))
+
+pub record AfterKey (c : ScanCtx) : Type 0 where
+  pub next : c .state ≡ FindNext
+  pub not-due : c .dup ≡ false
+  pub last-is : c .last ≡ c .cursor .ikey
+
+abbrev pub isSlow : LeafEnd → Bool
+isSlow Slow = true
+isSlow Past = false
+isSlow Gone = false
+isSlow Spent = false
+
+-- the loop's answer where the moves along a leaf are its last
+abbrev pub leftAnswer : LeafEnd → Answer
+leftAnswer Slow = Declined 23
+leftAnswer Past = Nothing
+leftAnswer Gone = Declined 22
+leftAnswer Spent = Declined 23
+
+-- what is left to do, from a scan on
+abbrev pub ahead : List ℕ → ℕ → List ℕ → ℕ → ℕ → Scan → Run
+ahead image kind bound keys moves s = runBy true image kind bound (length image - moves) keys moves s
+
+abbrev pub alongWith : LeafEnd → ScanCtx → ℕ → ℕ → Along
+alongWith end c keys moves = record { end = end; ctx = c; keys = keys; moves = moves }
+
+-- What the moves along a leaf come to, r with the buffer b, is part of what all moves come to.
+pub record AlongFrom (image : List ℕ) (kind : ℕ) (bound buf : List ℕ) (c : ScanCtx) (keys moves : ℕ) (r : Along) (b : List ℕ) : Type 0 where
+  pub same : (stack : List LayerContext) →
+      (let s : Scan = record { ctx = r .ctx; buf = b; stack = stack } in
+      pick (isSlow (r .end)) (ahead image kind bound (r .keys) (r .moves) s) (record { keys = r .keys; ran = record { answer = leftAnswer (r .end); moves = r .moves; scan = s } }))
+      ≡ ahead image kind bound keys moves (record { ctx = c; buf = buf; stack = stack })
+  pub after : AfterKey (r .ctx)
+  pub in-range : InRange (r .ctx .depth) (r .ctx)
+  pub long : length b ≡ 256
+  pub few : r .keys ≤ r .moves
+  pub grows : moves ≤ r .moves
+  pub within : r .moves ≤ length image
+  pub tested : isSlow (r .end) ≡ true → (r .moves < length image) × (leafThere image (r .ctx .leaf) ≡ true)

@@ -1,47 +1,17 @@
 -- Choices by a number x that a call returned, and which the definition reads as a: for `search`, on the way to a return.
 -- Assumes nothing.
-use mathlib.Core.Path.{_≡_}
-use mathlib.Core.Bool.{Bool, true, false, not}
-use mathlib.Core.List.{List}
-use Prim.Native.Nat.{ℕ, _+_, _≤_, _<_}
-use native.Mathlib.Omega.{arith}
-use borrow.Author.Tests.{le-ltb, lt-ltb, le-leb, lt-leb, eq-eqb, ne-eqb}
-use lib.Dec.{ltb, leb, eqb}
-use lib.ListN.{length}
+use Rattle.base.specs.Kit.{_≡_, Bool, true, false, List, ℕ, _+_, _≤_, _<_, arith, le-ltb, lt-ltb, ltb, length}
 use Rattle.node.specs.Layout.{suffixAt}
-use Rattle.node.specs.declared.leaf.Suffix.{Suffix}
-use Rattle.cursor.specs.declared.range_bound.StartMode.{StartMode}
+use Rattle.search.specs.Types.{Suffix, StartMode, Ordering, StoredOrder, Slot, Searched, Verdict, Started, CursorPlace}
 use Rattle.search.proofs.TraversalLaws.{in-image}
 use Rattle.base.specs.Pick.{pick}
 use Rattle.key.specs.Order.{order, byteOrder}
-use Rattle.key.specs.declared.Ordering.{Ordering}
-use Rattle.key.proofs.Turns.{order-less, order-equal, order-greater}
+use Rattle.key.proofs.Order.{order-less, order-equal, order-greater}
 use Rattle.search.specs.Helper.{byOrder, suffixReadable, storedIs, notShorter, notBelow, pastInline}
 use Rattle.search.specs.Start.{shortVerdict, byVerdict}
-use Rattle.search.specs.declared.helper.StoredOrder.{StoredOrder}
-use Rattle.node.specs.declared.permuter.Slot.{Slot}
-use Rattle.search.specs.declared.helper.Searched.{Searched}
-use Rattle.search.specs.declared.start.Verdict.{Verdict}
-use Rattle.search.specs.declared.start.Started.{Started}
-use Rattle.cursor.specs.declared.cursor_key.CursorPlace.{CursorPlace}
 
+-- By the order of a number x that a call returned, and which the definition reads as a.
 module _ {A : Type 0} (a b x : ℕ) (e : x ≡ a) where
-  pub differs : (p q z : A) → (x ≡ b → ⊥) → z ≡ p → z ≡ pick (not (eqb a b)) p q
-  unfolding pick
-  differs p q z h g = rw (← e, ne-eqb x b h) g
-
-  pub agrees : (p q z : A) → x ≡ b → z ≡ q → z ≡ pick (not (eqb a b)) p q
-  unfolding pick
-  agrees p q z h g = rw (← e, eq-eqb x b h) g
-
-  pub reaches : (p q z : A) → b ≤ x → z ≡ p → z ≡ pick (leb b a) p q
-  unfolding pick
-  reaches p q z h g = rw (← e, le-leb b x h) g
-
-  pub falls-short : (p q z : A) → x < b → z ≡ q → z ≡ pick (leb b a) p q
-  unfolding pick
-  falls-short p q z h g = rw (← e, lt-leb b x h) g
-
   pub by-less : (l m g z : A) → b < x → z ≡ l → z ≡ byOrder (order b a) l m g
   unfolding byOrder
   by-less l m g z h f = rw (← e, order-less b x h) f
@@ -66,25 +36,6 @@ module _ {A : Type 0} (a b x : ℕ) (e : x ≡ a) where
   pub is-over : (l m g z : A) → b < x → z ≡ g → z ≡ byOrder (order a b) l m g
   unfolding byOrder
   is-over l m g z h f = rw (← e, order-greater x b h) f
-
-  pub fits : (p q z : A) → x ≤ b → z ≡ p → z ≡ pick (leb a b) p q
-  unfolding pick
-  fits p q z h g = rw (← e, le-leb x b h) g
-
-  pub exceeds : (p q z : A) → b < x → z ≡ q → z ≡ pick (leb a b) p q
-  unfolding pick
-  exceeds p q z h g = rw (← e, lt-leb x b h) g
-
-  pub is-such : (p q z : A) → x ≡ b → z ≡ p → z ≡ pick (eqb a b) p q
-  unfolding pick
-  is-such p q z h g = rw (← e, eq-eqb x b h) g
-
-  pub is-other : (p q z : A) → (x ≡ b → ⊥) → z ≡ q → z ≡ pick (eqb a b) p q
-  unfolding pick
-  is-other p q z h g = rw (← e, ne-eqb x b h) g
-
--- Those of a number that is compared with another, for `search`.
-pub ruleset by-number = (is-under, is-level, is-over, fits, exceeds, reaches, falls-short, is-such, is-other)
 
 -- The order o of a cursor's suffix s to a stored one t, which the definition reads as u.
 pub stored-as : (o v : Ordering) (s t u : List ℕ) (z : StoredOrder) → o ≡ byteOrder s t → t ≡ u → o ≡ v → z ≡ storedIs v → z ≡ storedIs (byteOrder s u)

@@ -1,38 +1,15 @@
 -- "Up to eight bytes nothing changes": with at most eight bytes left, 02's search comes to where 01's rule says, over any bytes; in
 -- mode above, where the whole cursor has no more than eight either. Assumes nothing.
-use mathlib.Core.Path.{_≡_, refl, ap, _∙_}
-use mathlib.Core.List.{List}
-use mathlib.Core.Logic.{_⊎_, inl, inr}
-use mathlib.Core.Bool.{Bool, true, false}
-use Prim.Native.Nat.{ℕ, zero, suc, _+_, _≤_}
-use native.Mathlib.Omega.{arith}
-use lib.Dec.{ltb, eqb, leb}
-use borrow.Author.Tests.{lt-ltb, le-ltb, eq-eqb, ne-eqb}
+use Rattle.base.specs.Kit.{_≡_, refl, List, _⊎_, inl, inr, true, false, ℕ, zero, suc, _+_, _≤_, arith, ltb, eqb, lt-ltb, le-ltb, eq-eqb, ne-eqb}
 use Rattle.base.specs.Pick.{pick}
-use Rattle.base.proofs.Choice.{pick-ind}
+use Rattle.base.proofs.Choice.{pick-ind, pick-map}
 use Rattle.key.specs.Order.{then}
-use Rattle.key.specs.declared.Ordering.{Ordering}
+use Rattle.search.specs.Types.{Ordering, Slot, CursorPlace, StartMode, From, Verdict, Pass, Stand, Started, StartedAt as At}
 use Rattle.key.proofs.Order.{Cmp, is-lt, is-eq, is-gt, cmp}
 use Rattle.node.specs.Layout.{ikeyAt, keylenxAt}
-use Rattle.node.specs.declared.permuter.Slot.{Slot}
 use Rattle.cursor.specs.CursorKey.{hasSuffix}
-use Rattle.cursor.specs.declared.cursor_key.CursorPlace.{CursorPlace}
-use Rattle.cursor.specs.declared.range_bound.StartMode.{StartMode}
-use Rattle.cursor.specs.declared.range_bound.StartMode.the-variants.{From}
 use Rattle.search.specs.Helper.{position, slotIn, byOrder}
 use Rattle.search.specs.Start.{below, notBelowFrom, firstNotBelow, started, atEqual, shortVerdict, verdict, byVerdict, startFrom, startPosition}
-use Rattle.search.specs.declared.helper.Searched.{Searched}
-use Rattle.search.specs.declared.helper.Searched.the-variants.{At as SearchedAt, Fault as SearchedFault}
-use Rattle.search.specs.declared.start.Verdict.{Verdict}
-use Rattle.search.specs.declared.start.Verdict.the-variants.{Pass, Stand}
-use Rattle.search.specs.declared.start.Started.{Started}
-use Rattle.search.specs.declared.start.Started.the-variants.{At, Fault}
-
--- an answer is one of Start's whichever way a test goes
-started-by : (b : Bool) (x y : Searched) → pick b (started x) (started y) ≡ started (pick b x y)
-unfolding pick
-started-by true x y = refl
-started-by false x y = refl
 
 module _ (mode : StartMode) (image : List ℕ) (leaf : ℕ) (k : CursorPlace) (buf : List ℕ) (short : k .len ≤ 8)
     (rule : (mode ≡ From) ⊎ (k .offset + k .len ≤ 8)) where
@@ -70,8 +47,7 @@ module _ (mode : StartMode) (image : List ℕ) (leaf : ℕ) (k : CursorPlace) (b
       let y = keylenxAt image leaf s in
       let by : verdict mode image leaf k buf s ≡ shortVerdict mode k x y = rw (le-ltb 8 (k .len) short) in
       rw (by, slot-by-rule x y i s (startFrom mode image leaf k buf (i + 1) n), from-by-rule n (i + 1))
-      (ap (pick (leb 15 (s .0)) Fault) (started-by (below k x y) (notBelowFrom image leaf k (i + 1) n) (SearchedAt (position i)))
-      ∙ started-by (leb 15 (s .0)) SearchedFault (pick (below k x y) (notBelowFrom image leaf k (i + 1) n) (SearchedAt (position i))))
+      (simp (pick-map started))
 
   pub by-rule-01 : startPosition mode image leaf k buf ≡ started (firstNotBelow image leaf k)
   unfolding startPosition firstNotBelow

@@ -1,19 +1,10 @@
 -- The three searches over a leaf's positions as loops: a turn of each, and its end. Assumes nothing.
-use mathlib.Core.Path.{refl}
-use mathlib.Core.Bool.{not}
-use mathlib.Core.List.{List}
-use Prim.Native.Nat.{ℕ}
-use lib.Dec.{eqb}
+use Rattle.base.specs.Kit.{refl, not, List, ℕ, eqb}
 use Rattle.base.specs.Pick.{pick}
 use Rattle.key.specs.Order.{order}
 use Rattle.node.specs.Layout.{ikeyAt, keylenxAt}
-use Rattle.node.specs.declared.permuter.Slot.{Slot}
-use Rattle.cursor.specs.declared.cursor_key.CursorPlace.{CursorPlace}
+use Rattle.search.specs.Types.{Slot, CursorPlace, KeyIndexedPosition, NotFound, Found, KeyIndexedPositionFault as Fault, Searched, SearchedAt as At, SearchedFault}
 use Rattle.search.specs.Helper.{position, byOrder, lowerFrom, storedOrder, notShorter, afterInline, notBelow, afterSuffix}
-use Rattle.search.specs.declared.helper.KeyIndexedPosition.{KeyIndexedPosition}
-use Rattle.search.specs.declared.helper.KeyIndexedPosition.the-variants.{NotFound, Found, Fault}
-use Rattle.search.specs.declared.helper.Searched.{Searched}
-use Rattle.search.specs.declared.helper.Searched.the-variants.{At, Fault as SearchedFault}
 use Rattle.search.proofs.LoopLaws.{Loop, Faults, Turns, Stops, faults, turns, stops}
 
 -- What each says at a slot, by what the rest says; and that it is such a search.

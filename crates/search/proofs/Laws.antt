@@ -1,33 +1,14 @@
 -- What callers of the searches cite: a leaf that a descent comes to lies in the image, and a position that a search in a leaf
 -- comes to is one of the leaf's or the one past the last. Assumes nothing.
-use mathlib.Core.Path.{_≡_, refl}
-use mathlib.Core.Bool.{true, false, false≢true}
-use mathlib.Core.List.{List}
-use Prim.Native.Nat.{ℕ, zero, suc, _+_, _-_, _%_, _≤_, _<_}
-use native.Mathlib.Omega.{arith}
-use lib.ListN.{length}
+use Rattle.base.specs.Kit.{_≡_, refl, true, false, false≢true, List, ℕ, zero, suc, _+_, _-_, _%_, _≤_, _<_, arith, length}
 use Rattle.base.proofs.Choice.{pick-ind}
-use Rattle.key.specs.declared.Ordering.{Ordering}
-use Rattle.key.specs.declared.Ordering.the-variants.{Less, Equal, Greater}
+use Rattle.search.specs.Types.{Ordering, OrderingLess as Less, OrderingEqual as Equal, OrderingGreater as Greater, Position, Slot, CursorPlace, RecordKind, RecordKindLeaf as Leaf, Internode, Unreadable, Reached, ReachedLeaf, ReachedFault, KeyIndexedPosition, NotFound, Found, KeyIndexedPositionFault as Fault, StoredOrder, StoredOrderLess as SuffixLess, StoredOrderEqual as SuffixEqual, StoredOrderGreater as SuffixGreater, NoSuffix, StoredOrderFault as SuffixFault, Searched, SearchedAt as At, SearchedFault}
 use Rattle.node.specs.Layout.{permutationAt}
 use Rattle.node.specs.Permuter.{sizeOf}
-use Rattle.node.specs.declared.permuter.Position.{Position}
-use Rattle.node.specs.declared.permuter.Slot.{Slot}
-use Rattle.cursor.specs.declared.cursor_key.CursorPlace.{CursorPlace}
 use Rattle.search.specs.Traversal.{recordAt, byKind, leafThere, childFor, reachFrom, reach}
-use Rattle.search.specs.declared.traversal.RecordKind.{RecordKind}
-use Rattle.search.specs.declared.traversal.RecordKind.the-variants.{Leaf, Internode, Unreadable}
-use Rattle.search.specs.declared.traversal.Reached.{Reached}
-use Rattle.search.specs.declared.traversal.Reached.the-variants.{Leaf as ReachedLeaf, Fault as ReachedFault}
-use Rattle.search.specs.Helper.{slotIn, byOrder, lowerWithPosition, storedOrder, afterInline, notBelow, afterSuffix, behind, pastLayer, pastInline, pastSuffix, atMatch, atFound, lowerWithSuffix}
-use Rattle.search.specs.declared.helper.KeyIndexedPosition.{KeyIndexedPosition}
-use Rattle.search.specs.declared.helper.KeyIndexedPosition.the-variants.{NotFound, Found, Fault}
-use Rattle.search.specs.declared.helper.StoredOrder.{StoredOrder}
-use Rattle.search.specs.declared.helper.StoredOrder.the-variants.{Less as SuffixLess, Equal as SuffixEqual, Greater as SuffixGreater, NoSuffix, Fault as SuffixFault}
-use Rattle.search.specs.declared.helper.Searched.{Searched}
-use Rattle.search.specs.declared.helper.Searched.the-variants.{At, Fault as SearchedFault}
+use Rattle.search.specs.Helper.{slotIn, lowerWithPosition, storedOrder, afterInline, notBelow, afterSuffix, behind, pastLayer, pastInline, pastSuffix, atMatch, atFound, lowerWithSuffix}
 use Rattle.search.proofs.TraversalLaws.{in-image, in-record, not-first, not-second, turnOf}
-use Rattle.search.proofs.LoopLaws.{all-turns}
+use Rattle.search.proofs.LoopLaws.{all-turns, order-ind}
 use Rattle.search.proofs.HelperLaws.{lower-loop, inline-loop, suffix-loop}
 
 is-leaf : (k : RecordKind) → byKind k true false false ≡ true → k ≡ Leaf
@@ -85,17 +66,11 @@ module _ (image : List ℕ) (leaf : ℕ) where
   Finds (Found p s) = (p .0 < size) × (s .0 < 15) × (s ≡ slotIn image leaf (p .0))
   Finds Fault = Unit {0}
 
-  by-order : (o : Ordering) (l m g : KeyIndexedPosition) → Finds l → Finds m → Finds g → Finds (byOrder o l m g)
-  unfolding byOrder
-  by-order Less l m g x y z = x
-  by-order Equal l m g x y z = y
-  by-order Greater l m g x y z = z
-
   lower-finds : (ikey : ℕ) → Finds (lowerWithPosition image leaf ikey)
   unfolding lowerWithPosition
   lower-finds ikey =
       all-turns (lower-loop image leaf ikey) Finds size tt (λ i h. h)
-      (λ i rest h s r. by-order _ _ _ _ (omega arith) (h, s, refl) r) 0 size (omega arith)
+      (λ i rest h s r. order-ind Finds _ (omega arith) (h, s, refl) r) 0 size (omega arith)
 
   not-below : (o : StoredOrder) (i : ℕ) (rest : Searched) → i ≤ size → Within rest → Within (notBelow o i rest)
   unfolding notBelow
@@ -149,9 +124,6 @@ module _ (image : List ℕ) (leaf : ℕ) where
       lower-within p e = rw e at (at-found (lowerWithPosition image leaf (k .ikey)) (lower-finds (k .ikey)))
 
   -- the search by ikey
-  module _ (ikey : ℕ) (p : Position) where
-    pub not-found-within : lowerWithPosition image leaf ikey ≡ NotFound p → p .0 ≤ size
-    not-found-within e = rw e at (lower-finds ikey)
-
-    pub found-within : (s : Slot) → lowerWithPosition image leaf ikey ≡ Found p s → (p .0 < size) × (s .0 < 15) × (s ≡ slotIn image leaf (p .0))
-    found-within s e = rw e at (lower-finds ikey)
+  pub found-within : (ikey : ℕ) (p : Position) (s : Slot) → lowerWithPosition image leaf ikey ≡ Found p s
+      → (p .0 < size) × (s .0 < 15) × (s ≡ slotIn image leaf (p .0))
+  found-within ikey p s e = rw e at (lower-finds ikey)

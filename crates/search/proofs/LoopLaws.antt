@@ -1,18 +1,13 @@
 -- A search over a leaf's positions, one at a time: from position i on with n left it is `from i n`, which is `stop i` where
 -- none is left, `fault` at a slot of 15, and else what `turn` makes of the slot and of the rest. Assumes nothing.
-use mathlib.Core.Path.{_≡_, sym, _∙_}
-use mathlib.Core.List.{List}
-use Prim.Native.Nat.{ℕ, zero, suc, _+_, _-_, _≤_, _<_}
-use native.Mathlib.Omega.{arith}
-use borrow.Author.Tests.{le-leb, lt-leb, leb-false}
-use lib.Dec.{leb}
+use Rattle.base.specs.Kit.{_≡_, sym, _∙_, List, ℕ, zero, suc, _+_, _-_, _≤_, _<_, arith, le-leb, lt-leb, leb-false, leb}
 use Rattle.base.specs.Pick.{pick}
 use Rattle.base.proofs.Choice.{pick-ind}
 use Rattle.base.proofs.Count.{left-more}
+use Rattle.search.specs.Types.{Ordering, OrderingLess as Less, OrderingEqual as Equal, OrderingGreater as Greater, Slot}
 use Rattle.node.specs.Layout.{permutationAt}
 use Rattle.node.specs.Permuter.{slotAt}
-use Rattle.node.specs.declared.permuter.Slot.{Slot}
-use Rattle.search.specs.Helper.{position, slotIn}
+use Rattle.search.specs.Helper.{position, slotIn, byOrder}
 
 pub record Loop {A : Type 0} (image : List ℕ) (leaf : ℕ) (fault : A) (stop : ℕ → A) (turn : ℕ → Slot → A → A) (from : ℕ → ℕ → A) : Type 0 where
   pub none : (i : ℕ) → from i zero ≡ stop i
@@ -62,3 +57,10 @@ module _ {A : Type 0} {image : List ℕ} {leaf : ℕ} {fault : A} {stop : ℕ �
       rw (loop .more i n)
       (pick-ind P _ (λ t. x)
       (λ t. g i _ (omega arith) (leb-false 15 (slotIn image leaf i .0) t) (all-turns P size x f g (i + 1) n (omega arith))))
+
+-- what holds of the answers to the three orders holds of the one that is chosen
+pub order-ind : {A : Type 0} (P : A → Type 0) (o : Ordering) {l m g : A} → P l → P m → P g → P (byOrder o l m g)
+unfolding byOrder
+order-ind P Less x y z = x
+order-ind P Equal x y z = y
+order-ind P Greater x y z = z

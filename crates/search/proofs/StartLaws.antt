@@ -1,28 +1,14 @@
 -- Start's search in a leaf as a loop over positions; and where it comes to: a position of the leaf's or the one past the last, or a
 -- slot that is one of the fifteen, where more than eight bytes are left. Assumes nothing.
-use mathlib.Core.Path.{_≡_, refl}
-use mathlib.Core.List.{List}
-use Prim.Native.Nat.{ℕ, _≤_, _<_}
-use native.Mathlib.Omega.{arith}
-use borrow.Author.Tests.{ltb-true}
+use Rattle.base.specs.Kit.{_≡_, refl, List, ℕ, _≤_, _<_, arith, ltb-true}
 use Rattle.base.proofs.Choice.{pick-ind}
-use Rattle.key.specs.declared.Ordering.{Ordering}
-use Rattle.key.specs.declared.Ordering.the-variants.{Less, Equal, Greater}
 use Rattle.node.specs.Layout.{permutationAt}
 use Rattle.node.specs.Permuter.{sizeOf}
-use Rattle.node.specs.declared.permuter.Position.{Position}
-use Rattle.node.specs.declared.permuter.Slot.{Slot}
+use Rattle.search.specs.Types.{Position, Slot, CursorPlace, StartMode, Above, From, Verdict, Pass, Stand, VerdictEnter as Enter, VerdictFault, Started, StartedAt as At, StartedEnter, StartedFault as Fault}
 use Rattle.cursor.specs.CursorKey.{hasSuffix}
-use Rattle.cursor.specs.declared.cursor_key.CursorPlace.{CursorPlace}
-use Rattle.cursor.specs.declared.range_bound.StartMode.{StartMode}
-use Rattle.cursor.specs.declared.range_bound.StartMode.the-variants.{Above, From}
-use Rattle.search.specs.Helper.{position, slotIn, byOrder}
+use Rattle.search.specs.Helper.{position, slotIn}
 use Rattle.search.specs.Start.{atEqual, shortVerdict, suffixVerdict, longVerdict, verdict, byVerdict, startFrom, startPosition}
-use Rattle.search.specs.declared.start.Verdict.{Verdict}
-use Rattle.search.specs.declared.start.Verdict.the-variants.{Pass, Stand, Enter, Fault as VerdictFault}
-use Rattle.search.specs.declared.start.Started.{Started}
-use Rattle.search.specs.declared.start.Started.the-variants.{At, Enter as StartedEnter, Fault}
-use Rattle.search.proofs.LoopLaws.{Loop, Faults, Turns, Stops, faults, turns, stops, all-turns}
+use Rattle.search.proofs.LoopLaws.{Loop, Faults, Turns, Stops, faults, turns, stops, all-turns, order-ind}
 
 module _ (mode : StartMode) (image : List ℕ) (leaf : ℕ) (k : CursorPlace) (buf : List ℕ) where
   abbrev pub startTurn : ℕ → Slot → Started → Started
@@ -53,23 +39,17 @@ module _ (mode : StartMode) (image : List ℕ) (leaf : ℕ) (k : CursorPlace) (b
   enters-equal Above = tt
   enters-equal From = tt
 
-  three : (o : Ordering) (l m g : Verdict) → Enters l → Enters m → Enters g → Enters (byOrder o l m g)
-  unfolding byOrder
-  three Less l m g x y z = x
-  three Equal l m g x y z = y
-  three Greater l m g x y z = z
-
   enters-where : (s : Slot) → Enters (verdict mode image leaf k buf s)
   unfolding verdict hasSuffix longVerdict shortVerdict suffixVerdict
   enters-where s =
       pick-ind Enters _
-      (λ t. three _ _ _ _ tt
+      (λ t. order-ind Enters _ tt
       (pick-ind Enters _ (λ u. tt)
       (λ u. pick-ind Enters _ (λ v. ltb-true 8 (k .len) t)
       (λ v. pick-ind Enters _
-      (λ w. pick-ind Enters _ (λ r. tt) (λ r. pick-ind Enters _ (λ q. tt) (λ q. three _ _ _ _ tt (enters-equal mode) tt)))
+      (λ w. pick-ind Enters _ (λ r. tt) (λ r. pick-ind Enters _ (λ q. tt) (λ q. order-ind Enters _ tt (enters-equal mode) tt)))
       (λ w. tt)))) tt)
-      (λ t. three _ _ _ _ tt (pick-ind Enters _ (λ u. enters-equal mode) (λ u. tt)) tt)
+      (λ t. order-ind Enters _ tt (pick-ind Enters _ (λ u. enters-equal mode) (λ u. tt)) tt)
 
   abbrev size : ℕ
   size = sizeOf (permutationAt image leaf)

@@ -1,21 +1,10 @@
 -- What the code's tests say of `readable`, of the kind of a record, and of the descent to a leaf. Assumes nothing.
-use mathlib.Core.Path.{_≡_, refl, sym, _∙_}
-use mathlib.Core.Bool.{Bool, true, false, not, _&&_, and-eq-true-iff}
-use mathlib.Core.List.{List}
-use Prim.Native.Nat.{ℕ, zero, suc, _+_, _-_, _%_, _≤_, _<_}
-use native.Mathlib.Numerals.{add-one}
-use native.Mathlib.Omega.{arith}
-use borrow.Author.Tests.{leb-true, leb-false, eqb-true, le-leb, lt-leb, eq-eqb, ne-eqb, lt-ltb, le-ltb, not-true, not-false}
-use lib.Dec.{leb, ltb, eqb}
-use lib.ListN.{length}
+use Rattle.base.specs.Kit.{_≡_, refl, sym, _∙_, Bool, true, false, not, _&&_, and-eq-true-iff, List, ℕ, zero, suc, _+_, _-_, _%_, _≤_, _<_, add-one, arith, leb-true, leb-false, eqb-true, le-leb, lt-leb, eq-eqb, ne-eqb, lt-ltb, le-ltb, not-true, not-false, leb, ltb, eqb, length}
 use Rattle.base.specs.Pick.{pick}
 use Rattle.node.specs.Version.{isLeaf, atRest}
 use Rattle.node.specs.Layout.{versionAt, nkeysAt}
 use Rattle.search.specs.Traversal.{readable, recordAt, byKind, childFor, reachFrom, reach}
-use Rattle.search.specs.declared.traversal.RecordKind.{RecordKind}
-use Rattle.search.specs.declared.traversal.RecordKind.the-variants.{Leaf, Internode, Unreadable}
-use Rattle.search.specs.declared.traversal.Reached.{Reached}
-use Rattle.search.specs.declared.traversal.Reached.the-variants.{Leaf as ReachedLeaf, Fault as ReachedFault}
+use Rattle.search.specs.Types.{RecordKind, RecordKindLeaf as Leaf, Internode, Unreadable, Reached, ReachedLeaf, ReachedFault}
 
 module _ (image : List ℕ) (at n : ℕ) where
   pub in-image : readable image at n ≡ true → (8 ≤ at) × (at + n + 32 ≤ length image)

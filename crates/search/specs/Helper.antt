@@ -1,28 +1,14 @@
 -- Searches in a leaf, over any bytes (01, module 4; the Rust's helper.rs). The leaf is known to lie before the trailer.
 -- "22: .. a slot of 15" is met where the permutation's field is read; a suffix that is compared must lie before the trailer.
-use mathlib.Core.Bool.{Bool, true, false, not, _&&_, _||_}
-use mathlib.Core.List.{List}
-use Prim.Native.Nat.{ℕ, zero, suc, _+_, _-_}
-use lib.Dec.{leb, ltb, eqb}
-use lib.ListN.{length}
+use Rattle.base.specs.Kit.{Bool, true, not, List, ℕ, zero, suc, _+_, _-_, leb, eqb}
 use Rattle.base.specs.Pick.{pick}
 use Rattle.key.specs.Part.{part}
 use Rattle.key.specs.Order.{byteOrder, order}
-use Rattle.key.specs.declared.Ordering.{Ordering}
-use Rattle.key.specs.declared.Ordering.the-variants.{Less, Equal, Greater}
+use Rattle.search.specs.Types.{Ordering, OrderingLess as Less, OrderingEqual as Equal, OrderingGreater as Greater, Position, Slot, CursorPlace, KeyIndexedPosition, NotFound, Found, KeyIndexedPositionFault as Fault, StoredOrder, StoredOrderLess as SuffixLess, StoredOrderEqual as SuffixEqual, StoredOrderGreater as SuffixGreater, NoSuffix, StoredOrderFault as SuffixFault, Searched, SearchedAt as At, SearchedFault}
 use Rattle.node.specs.Permuter.{sizeOf, slotAt}
 use Rattle.node.specs.Layout.{permutationAt, ikeyAt, keylenxAt, suffixAt}
-use Rattle.node.specs.declared.permuter.Position.{Position}
-use Rattle.node.specs.declared.permuter.Slot.{Slot}
 use Rattle.cursor.specs.CursorKey.{suffixOf, hasSuffix}
-use Rattle.cursor.specs.declared.cursor_key.CursorPlace.{CursorPlace}
 use Rattle.search.specs.Traversal.{readable}
-use Rattle.search.specs.declared.helper.KeyIndexedPosition.{KeyIndexedPosition}
-use Rattle.search.specs.declared.helper.KeyIndexedPosition.the-variants.{NotFound, Found, Fault}
-use Rattle.search.specs.declared.helper.StoredOrder.{StoredOrder}
-use Rattle.search.specs.declared.helper.StoredOrder.the-variants.{Less as SuffixLess, Equal as SuffixEqual, Greater as SuffixGreater, NoSuffix, Fault as SuffixFault}
-use Rattle.search.specs.declared.helper.Searched.{Searched}
-use Rattle.search.specs.declared.helper.Searched.the-variants.{At, Fault as SearchedFault}
 
 abbrev pub position : ℕ → Position
 position i = record { 0 = i }

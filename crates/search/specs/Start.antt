@@ -1,25 +1,13 @@
 -- Where Start comes to in a leaf, over any bytes. 01 has a rule for cursors of at most eight bytes, 02 [1] for cursors of up to 256;
 -- proofs/ByRule01.antt joins the two. In the Rust this is `find_initial`, whose match on the ikey alone does not come along.
-use mathlib.Core.Bool.{Bool, true, false, not}
-use mathlib.Core.List.{List}
-use Prim.Native.Nat.{ℕ, zero, suc, _+_}
-use lib.Dec.{leb, ltb, eqb}
+use Rattle.base.specs.Kit.{Bool, true, false, not, List, ℕ, zero, suc, _+_, leb, ltb, eqb}
 use Rattle.base.specs.Pick.{pick}
 use Rattle.key.specs.Order.{byteOrder, order, then}
 use Rattle.node.specs.Permuter.{sizeOf}
 use Rattle.node.specs.Layout.{permutationAt, ikeyAt, keylenxAt, suffixAt}
-use Rattle.node.specs.declared.permuter.Slot.{Slot}
+use Rattle.search.specs.Types.{Slot, CursorPlace, StartMode, Above, From, Searched, SearchedAt as At, SearchedFault as Fault, Verdict, Pass, Stand, VerdictEnter as Enter, VerdictFault, Started, StartedAt, StartedEnter, StartedFault}
 use Rattle.cursor.specs.CursorKey.{suffixOf, hasSuffix}
-use Rattle.cursor.specs.declared.cursor_key.CursorPlace.{CursorPlace}
-use Rattle.cursor.specs.declared.range_bound.StartMode.{StartMode}
-use Rattle.cursor.specs.declared.range_bound.StartMode.the-variants.{Above, From}
 use Rattle.search.specs.Helper.{position, slotIn, byOrder, suffixReadable, suffixBytes}
-use Rattle.search.specs.declared.helper.Searched.{Searched}
-use Rattle.search.specs.declared.helper.Searched.the-variants.{At, Fault}
-use Rattle.search.specs.declared.start.Verdict.{Verdict}
-use Rattle.search.specs.declared.start.Verdict.the-variants.{Pass, Stand, Enter, Fault as VerdictFault}
-use Rattle.search.specs.declared.start.Started.{Started}
-use Rattle.search.specs.declared.start.Started.the-variants.{At as StartedAt, Enter as StartedEnter, Fault as StartedFault}
 
 -- 01'S RULE: "stand at the first slot whose ikey, then `keylenx`, is not below the cursor's ikey, then length, else past the last".
 unfoldable pub below : CursorPlace → ℕ → ℕ → Bool

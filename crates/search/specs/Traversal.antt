@@ -1,19 +1,12 @@
 -- From a layer's root to a leaf, over any bytes (01, module 5; "22: a move reads a record or suffix that starts below 8 or is
 -- not wholly before the trailer, a record not at a multiple of 8, a forbidden version bit, an internode where the walk or a
 -- `next` names a leaf, a child not below its parent, a key count over 15").
-use mathlib.Core.Bool.{Bool, true, false, not, _&&_}
-use mathlib.Core.List.{List}
-use Prim.Native.Nat.{ℕ, zero, suc, _+_, _%_}
-use lib.Dec.{leb, ltb, eqb}
-use lib.ListN.{length}
+use Rattle.base.specs.Kit.{Bool, true, false, not, _&&_, List, ℕ, zero, suc, _+_, _%_, leb, ltb, eqb, length}
 use Rattle.base.specs.Pick.{pick}
 use Rattle.node.specs.Version.{isLeaf, atRest}
 use Rattle.node.specs.Layout.{versionAt, nkeysAt, childAt}
 use Rattle.node.specs.Ksearch.{upperBound}
-use Rattle.search.specs.declared.traversal.RecordKind.{RecordKind}
-use Rattle.search.specs.declared.traversal.RecordKind.the-variants.{Leaf, Internode, Unreadable}
-use Rattle.search.specs.declared.traversal.Reached.{Reached}
-use Rattle.search.specs.declared.traversal.Reached.the-variants.{Leaf as ReachedLeaf, Fault as ReachedFault}
+use Rattle.search.specs.Types.{RecordKind, RecordKindLeaf as Leaf, Internode, Unreadable, Reached, ReachedLeaf, ReachedFault}
 
 -- n bytes at an offset lie between byte 8 and the trailer.
 unfoldable pub readable : List ℕ → ℕ → ℕ → Bool

@@ -6,10 +6,7 @@ use node::leaf;
 use node::permuter;
 use node::permuter::Position;
 use node::permuter::Slot;
-ghost use mathlib.Core.Path.{_≡_};
-ghost use mathlib.Core.Bool.{true};
-ghost use Prim.Native.Nat.{_+_, _≤_, _<_};
-ghost use lib.ListN.{length};
+ghost use Rattle.base.specs.Kit.{_≡_, true, _+_, _≤_, _<_};
 ghost use Rattle.key.specs.Order.{order};
 ghost use Rattle.node.specs.Layout.{InLeaf, InSlot, permutationAt};
 ghost use Rattle.node.specs.Permuter.{sizeOf};
@@ -39,7 +36,7 @@ pub enum Searched {
 }
 
 // The first position whose ikey is not below `ikey`.
-pub fn lower_with_position(image: &[u8], leaf: usize, ikey: u64) -> KeyIndexedPosition
+fn lower_with_position(image: &[u8], leaf: usize, ikey: u64) -> KeyIndexedPosition
     requires { ⌜ InLeaf (now image) leaf ⌝ }
     ensures { λ r. ⌜ r ≡ lowerWithPosition (now (image .entry)) leaf ikey ⌝ }
 {
@@ -110,7 +107,7 @@ pub fn compare_stored(
 }
 
 // The first position behind `start` whose slot has another ikey than the cursor, or a suffix, or a layer, or is not shorter.
-pub fn find_position_after_inline(
+fn find_position_after_inline(
     image: &[u8],
     leaf: usize,
     k: CursorPlace,
@@ -154,7 +151,7 @@ fn is_not_shorter(keylenx: u8, len: usize) -> bool
 }
 
 // The first position behind `start` whose slot has another ikey than the cursor, or a suffix not below the cursor's.
-pub fn find_position_after_suffix(
+fn find_position_after_suffix(
     image: &[u8],
     leaf: usize,
     k: CursorPlace,

@@ -8,8 +8,7 @@ use node::leaf;
 use node::permuter;
 use node::permuter::Position;
 use node::permuter::Slot;
-ghost use mathlib.Core.Path.{_≡_};
-ghost use Prim.Native.Nat.{_+_, _≤_};
+ghost use Rattle.base.specs.Kit.{_≡_, _+_, _≤_};
 ghost use Rattle.node.specs.Layout.{InLeaf, InSlot};
 ghost use Rattle.search.specs.Start.{atEqual, shortVerdict, suffixVerdict, longVerdict, verdict, startPosition};
 

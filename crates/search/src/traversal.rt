@@ -3,10 +3,7 @@
 use node::internode;
 use node::ksearch;
 use node::nodeversion;
-ghost use mathlib.Core.Path.{_≡_};
-ghost use mathlib.Core.Bool.{true};
-ghost use Prim.Native.Nat.{_+_, _≤_};
-ghost use lib.ListN.{length};
+ghost use Rattle.base.specs.Kit.{_≡_, true, _≤_};
 ghost use Rattle.node.specs.Layout.{InInternode, nkeysAt};
 ghost use Rattle.search.specs.Traversal.{readable, recordAt, leafThere, childFor, reach};
 
@@ -41,7 +38,7 @@ pub fn is_readable(image: &[u8], at: u64, n: u64) -> bool
 }
 
 // What a move finds at an offset.
-pub fn record_at(image: &[u8], at: u64) -> RecordKind
+fn record_at(image: &[u8], at: u64) -> RecordKind
     ensures { λ r. ⌜ r ≡ recordAt (now (image .entry)) at ⌝ }
 {
     if at % 8 != 0 {
@@ -76,7 +73,7 @@ pub fn is_leaf_there(image: &[u8], at: u64) -> bool
 }
 
 // The child of an internode that a search goes to.
-pub fn child_for(image: &[u8], at: usize, ikey: u64) -> u64
+fn child_for(image: &[u8], at: usize, ikey: u64) -> u64
     requires { ⌜ InInternode (now image) at ⌝ }
     requires { ⌜ nkeysAt (now image) at ≤ 15 ⌝ }
     ensures { λ r. ⌜ r ≡ childFor (now (image .entry)) at ikey ⌝ }

@@ -1,14 +1,6 @@
 -- Decimals: their digits from the last to the first, how many there are, and what one store of a digit adds. The bound of
 -- twenty digits is enough for every number below 2^64, so that it drops out of the laws. Assumes nothing.
-use mathlib.Core.Path.{_≡_, sym, ap}
-use mathlib.Core.Bool.{Bool, true, false}
-use mathlib.Core.List.{List, [], _∷_, _++_}
-use Prim.Native.Nat.{ℕ, zero, suc, _+_, _/_, _%_, _^_, _≤_, _<_}
-use native.Mathlib.Omega.{arith}
-use lib.Dec.{ltb}
-use lib.ListN.{length, set, length-append}
-use lib.Seq.{paste}
-use borrow.Author.Tests.{lt-ltb, le-ltb}
+use Rattle.base.specs.Kit.{_≡_, sym, ap, Bool, true, false, List, [], _∷_, _++_, ℕ, zero, suc, _+_, _/_, _%_, _^_, _≤_, _<_, arith, ltb, length, set, length-append, paste, lt-ltb, le-ltb}
 use Rattle.base.specs.Pick.{pick}
 use Rattle.sheet.specs.Sheet.{decimalIn, decimal}
 use Rattle.sheet.proofs.Paste.{paste-one, paste-last}

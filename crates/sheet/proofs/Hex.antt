@@ -1,11 +1,5 @@
 -- Keys in hex: how many digits there are, and what one turn of the loop that writes them adds. Assumes nothing.
-use mathlib.Core.Path.{_≡_, refl, _∙_}
-use mathlib.Core.List.{List, [], _∷_}
-use Prim.Native.Nat.{ℕ, suc, _+_, _*_, _/_, _%_, _≤_, _<_}
-use native.Mathlib.Numerals.{add-one}
-use native.Mathlib.Omega.{arith}
-use lib.ListN.{length, getD, drop, set, length-set, length-drop, drop-of-length-le}
-use lib.Seq.{drop-cons, paste, paste-zero}
+use Rattle.base.specs.Kit.{_≡_, refl, _∙_, List, [], _∷_, ℕ, suc, _+_, _*_, _/_, _%_, _≤_, _<_, add-one, arith, length, getD, drop, set, length-set, length-drop, drop-of-length-le, drop-cons, paste, paste-zero}
 use Rattle.sheet.specs.Sheet.{hexDigit, hexBytes, hexKey}
 use Rattle.sheet.proofs.Paste.{paste-first}
 

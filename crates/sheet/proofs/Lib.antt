@@ -1,4 +1,3 @@
-pub mod Paste
 pub mod Decimal
 pub mod Hex
-pub mod Lines
+pub mod Paste

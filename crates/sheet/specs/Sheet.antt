@@ -1,9 +1,7 @@
 -- Sheet edition 1 (01, "Surveyed examples": "The first line has the edition and the trailer's key count; then lower-case hex key
 -- (- for empty) and decimal value; last the walk's moves. Decimals have no leading zeros and stay below 2^64; each line ends in
 -- one newline byte, and nothing follows the last").
-use mathlib.Core.List.{List, [], _∷_, _++_}
-use Prim.Native.Nat.{ℕ, zero, suc, _+_, _/_, _%_}
-use lib.Dec.{ltb}
+use Rattle.base.specs.Kit.{List, [], _∷_, _++_, ℕ, zero, suc, _+_, _/_, _%_, ltb}
 use Rattle.base.specs.Pick.{pick}
 use Rattle.layering.specs.Keys.{Pair}
 
@@ -29,7 +27,7 @@ hexKey [] = 45 ∷ []
 hexKey (b ∷ s) = hexBytes (b ∷ s)
 
 -- "sheet 1 keys " and the key count.
-unfoldable pub firstLine : ℕ → List ℕ
+abbrev pub firstLine : ℕ → List ℕ
 firstLine count = (115 ∷ 104 ∷ 101 ∷ 101 ∷ 116 ∷ 32 ∷ 49 ∷ 32 ∷ 107 ∷ 101 ∷ 121 ∷ 115 ∷ 32 ∷ []) ++ decimal count ++ (10 ∷ [])
 
 -- One station: key, space, value.
@@ -41,7 +39,7 @@ pairLines [] = []
 pairLines (x ∷ xs) = pairLine x ++ pairLines xs
 
 -- "end " and the walk's moves.
-unfoldable pub lastLine : ℕ → List ℕ
+abbrev pub lastLine : ℕ → List ℕ
 lastLine moves = (101 ∷ 110 ∷ 100 ∷ 32 ∷ []) ++ decimal moves ++ (10 ∷ [])
 
 -- THE SHEET of the pairs that a walk hands out, for an image whose trailer states `count` keys.
@@ -49,5 +47,5 @@ unfoldable pub sheet : ℕ → List Pair → ℕ → List ℕ
 sheet count pairs moves = firstLine count ++ pairLines pairs ++ lastLine moves
 
 -- "A declined image prints only `refused n`."
-unfoldable pub refused : ℕ → List ℕ
+abbrev pub refused : ℕ → List ℕ
 refused n = (114 ∷ 101 ∷ 102 ∷ 117 ∷ 115 ∷ 101 ∷ 100 ∷ 32 ∷ []) ++ decimal n ++ (10 ∷ [])

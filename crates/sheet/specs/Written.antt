@@ -1,10 +1,6 @@
 -- One line written into a lent buffer, whole or not at all (01, "What each operation declines": "Lent output past the written
 -- length keeps its bytes"). `paste out 0 line n` of the library is `out` with the first n bytes of the line at its front.
-use mathlib.Core.List.{List}
-use Prim.Native.Nat.{ℕ}
-use lib.Dec.{leb}
-use lib.ListN.{length}
-use lib.Seq.{paste}
+use Rattle.base.specs.Kit.{List, ℕ, leb, length, paste}
 use Rattle.base.specs.Pick.{pick}
 
 -- The written length: the line's, or 0 where the buffer is too short for it.

@@ -3,11 +3,7 @@
 // Interface: `first_line`, `pair_line`, `last_line` and `refused_line`. None has a `requires`: where the buffer is too short for
 // the line nothing is written, and the length is 0. What stands past the written length stays as it was.
 use key::copy_in;
-ghost use mathlib.Core.List.{[], _∷_, _++_};
-ghost use mathlib.Core.Path.{_≡_};
-ghost use Prim.Native.Nat.{_+_, _*_, _≤_, _<_};
-ghost use lib.ListN.{length};
-ghost use lib.Seq.{paste};
+ghost use Rattle.base.specs.Kit.{[], _∷_, _++_, _≡_, _+_, _*_, _≤_, _<_, length, paste};
 ghost use Rattle.sheet.specs.Sheet.{decimal, hexDigit, hexBytes, hexKey, firstLine, pairLine, lastLine, refused};
 ghost use Rattle.sheet.specs.Written.{writtenLen, writtenOut};
 

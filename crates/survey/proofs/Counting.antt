@@ -1,17 +1,14 @@
 -- The tally's count. Proved: over an accepted image, from a placing that is taken, the loop of moves counts as many keys
 -- as demand 3's row has. The idea: the loop follows the walk over rows, whose potential pays for every move
 -- (demands/proofs/Tally.antt), and an accepted image has more bytes than that.
-use mathlib.Core.Path.{_≡_}
-use mathlib.Core.List.{List}
-use Prim.Native.Nat.{ℕ, _<_}
-use lib.ListN.{length, getD}
+use Rattle.base.specs.Kit.{_≡_, List, ℕ, _<_, length, getD}
+use Rattle.layering.specs.Sieve.{rowOf}
 use Rattle.verify.specs.Check.{accepted, check}
 use Rattle.verify.specs.declared.Counts.{Counts}
 use Rattle.verify.proofs.Theorem.{accepted-obeys}
-use Rattle.scan.specs.Machine.{place}
+use Rattle.walk.specs.Placing.{place}
 use Rattle.scan.specs.Loop.{keysLeft}
 use Rattle.cursor.specs.declared.range_bound.StartMode.{StartMode}
-use Rattle.demands.specs.Demand.{rowOf}
 use Rattle.demands.proofs.Whole.{taken, fresh-keys}
 
 -- THE COUNT

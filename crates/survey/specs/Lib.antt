@@ -1,3 +1,1 @@
-pub mod Sample
-pub mod Examples
 pub mod Tally

@@ -1,17 +1,13 @@
 -- The tally's answer (01: "Tally: how many keys a walk above a cursor hands out within a bound. Check's numbers, then 11, 12, 13. It
 -- uses the short form").
-use mathlib.Core.Bool.{not}
-use mathlib.Core.List.{List}
-use Prim.Native.Nat.{ℕ}
-use lib.Dec.{eqb}
-use lib.ListN.{length}
+use Rattle.base.specs.Kit.{not, List, ℕ, eqb, length}
+use Rattle.layering.specs.Sieve.{rowOf}
 use Rattle.base.specs.Pick.{pick}
 use Rattle.verify.specs.Check.{check}
 use Rattle.verify.specs.declared.Checked.{Checked}
 use Rattle.verify.specs.declared.Checked.the-variants as checked
-use Rattle.scan.specs.Machine.{placeFault}
+use Rattle.walk.specs.Placing.{placeFault}
 use Rattle.cursor.specs.declared.range_bound.StartMode.the-variants.{Above}
-use Rattle.demands.specs.Demand.{rowOf}
 use Rattle.survey.specs.declared.Tallied.{Tallied}
 use Rattle.survey.specs.declared.Tallied.the-variants.{Counted, Declined}
 

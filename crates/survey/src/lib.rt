@@ -1,8 +1,9 @@
-// Tally (01, module 9), and the worked examples of 01 as a table (specs/Examples.antt).
+// Tally (01, module 9).
 //
 // Interface: `tally`, which takes anything and has no `requires`, and its answer `Tallied`.
+use cursor::range_bound::StartMode;
 use verify::Checked;
-ghost use mathlib.Core.Path.{_≡_};
+ghost use Rattle.base.specs.Kit.{_≡_};
 ghost use Rattle.survey.specs.Tally.{tally};
 
 // The tally's answer: how many keys there are, or 01's number.
@@ -23,12 +24,12 @@ pub fn tally(image: &[u8], cursor: &[u8], kind: u8, bound: &[u8]) -> Tallied
             value_slots: _,
             sub_layers: _,
         } => {
-            let placed = scan::place_above(image, cursor, kind, bound);
+            let placed = walk::placing::place(image, StartMode::Above, cursor, kind, bound);
             let code = placed.code;
             if code != 0 {
                 return Tallied::Declined(code);
             }
-            Tallied::Counted(scan::count_keys(placed.walk, image))
+            Tallied::Counted(scan::step::count_keys(placed.walk, image))
         }
     }
 }

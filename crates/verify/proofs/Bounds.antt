@@ -1,27 +1,13 @@
 -- What the inner answers tell, and that the check's numbers stay small: a subtree keeps `Bounded` for every number of slots
 -- ahead, a slot adds one to it, and the end of a leaf takes all its slots back. By recursion as the check's own.
-use mathlib.Core.Bool.{Bool, true}
-use mathlib.Core.List.{List}
-use mathlib.Core.Path.{_≡_, refl}
-use Prim.Native.Nat.{ℕ, zero, suc, _+_, _*_, _-_, _<_, _≤_}
-use native.Mathlib.Nat.{suc-mul}
-use native.Mathlib.Numerals.{sub-one}
-use native.Mathlib.Omega.{arith}
-use lib.Dec.{eqb}
-use lib.ListN.{length}
-use borrow.Author.Tests.{not-false, leb-true, eqb-true, eqb-false}
+use Rattle.base.specs.Kit.{Bool, true, List, _≡_, refl, ℕ, zero, suc, _+_, _*_, _-_, _<_, _≤_, suc-mul, sub-one, arith, eqb, length, not-false, leb-true, eqb-true, eqb-false}
 use Rattle.base.proofs.Choice.{pick-ind}
 use Rattle.node.specs.Version.{atRest}
 use Rattle.node.specs.Permuter.{sizeOf}
 use Rattle.node.specs.Layout.{versionAt, permutationAt, nextAt, nkeysAt}
 use Rattle.node.proofs.PermuterLaws.{size-fits}
-use Rattle.node.specs.declared.leaf.Suffix.{Suffix}
-use Rattle.verify.specs.declared.Progress.{Progress}
-use Rattle.verify.specs.declared.RecordCheck.{RecordCheck}
-use Rattle.verify.specs.declared.RecordCheck.the-variants.{Leaf, Internode, Fault}
-use Rattle.verify.specs.declared.SlotCheck.{SlotCheck}
-use Rattle.verify.specs.declared.SlotCheck.the-variants.{Layer, Passed, Fault as SlotFault}
-use Rattle.verify.specs.Check.{stop, andThen, each, demand, passSuffix, passLeaf, passInternode, enterLayer, leaveLayer, separatorsFrom, slotC, nodeC}
+use Rattle.verify.specs.Types.{Suffix, Progress, RecordCheck, Leaf, Internode, RecordCheckFault as Fault, SlotCheck, Layer, Passed, SlotCheckFault as SlotFault}
+use Rattle.verify.specs.Check.{stop, andThen, each, demand, passLeaf, passInternode, enterLayer, leaveLayer, separatorsFrom, slotC, nodeC}
 use Rattle.verify.specs.Cases.{afterRecord, afterSlot, subC, leafCheck, internodeCheck, recordCheck, LeafTold, suffixCheck, kindCheck, slotCheck, recordEnd, leafEnd, layerEnd, Bounded, Sized}
 use Rattle.verify.proofs.Going.{says-leb, says-eqb, says-and, says-self}
 use Rattle.verify.proofs.Fields.{layer-kind}
@@ -67,7 +53,6 @@ pub weaker : (a b : ℕ) (p : Progress) → a ≤ b → Bounded a p → Bounded 
 weaker a b p h k = record { within = k .within; counted = omega (arith, k .counted) }
 
 stop-kept : (a n : ℕ) → Kept a (stop n)
-unfolding stop
 stop-kept a n e = record { within = omega arith; counted = omega arith }
 
 pub demand-kept : (a n : ℕ) (t : Bool) (p : Progress) → (t ≡ true → Kept a p) → Kept a (demand n t p)
@@ -98,7 +83,7 @@ SlotTold depth a (SlotFault n) = n ≡ 0 → ⊥
 
 module _ (image : List ℕ) (sized : Sized image) (depth at : ℕ) (inside : at + 432 ≤ length image) (lo hi : ℕ) where
   suffix-told : (s : Suffix) (a : ℕ) (p : Progress) → Bounded a p → SlotTold depth a (suffixCheck at s p)
-  unfolding suffixCheck SlotTold passSuffix
+  unfolding suffixCheck SlotTold
   suffix-told s a p b =
       pick-ind (SlotTold depth a) _
       (λ t.
@@ -107,7 +92,7 @@ module _ (image : List ℕ) (sized : Sized image) (depth at : ℕ) (inside : at 
       (λ f e. omega arith)
 
   pub slot-told : (i a : ℕ) (p : Progress) → Bounded a p → SlotTold depth a (slotCheck image depth at lo hi i p)
-  unfolding slotCheck kindCheck SlotTold passSuffix
+  unfolding slotCheck kindCheck SlotTold
   slot-told i a p b =
       let T = SlotTold depth a in
       pick-ind T _ (λ t e. omega arith) (λ f. pick-ind T _ (λ t e. omega arith) (λ fitting. pick-ind T _ (λ t e. omega arith)
@@ -116,7 +101,7 @@ module _ (image : List ℕ) (sized : Sized image) (depth at : ℕ) (inside : at 
       (λ f. record { within = omega (arith, b .within); counted = omega (arith, b .counted) })))))
 
   pub slot-adds : (sub : ℕ → Progress → Progress) → ((root : ℕ) → Adds 0 (sub root)) → (i : ℕ) → Adds 1 (slotC sub image depth at lo hi i)
-  unfolding afterSlot SlotTold enterLayer leaveLayer
+  unfolding afterSlot SlotTold leaveLayer
   slot-adds sub h i a p b = rw (slot-is sub image depth at lo hi i p) (go (slotCheck image depth at lo hi i p) (slot-told i a p b))
     where
       go : (r : SlotCheck) → SlotTold depth a r → Kept (a + 1) (afterSlot r sub p)

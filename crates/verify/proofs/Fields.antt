@@ -1,19 +1,41 @@
 -- What the check's tests of a slot say: its numbers 6, 7 and 8.
-use mathlib.Core.Bool.{Bool, true, false, _&&_, _||_}
-use mathlib.Core.Logic.{_⊎_, inl, inr}
-use mathlib.Core.Path.{_≡_, refl}
-use Prim.Native.Nat.{ℕ, zero, suc, _+_, _*_, _%_, _-_, _^_, _≤_, _<_}
-use native.Mathlib.Omega.{arith}
-use lib.Dec.{leb, ltb, eqb}
-use borrow.Author.Tests.{leb-true, le-leb, lt-leb, eq-eqb, ne-eqb}
+use Rattle.base.specs.Kit.{true, _&&_, _||_, _⊎_, inl, inr, ⊎-elim, _≡_, refl, ap, ℕ, zero, suc, _+_, _*_, _%_, _-_, _^_, _≤_, _<_, _/_, arith, leb, ltb, eqb, leb-true, le-leb, lt-leb, eq-eqb, ne-eqb, pow-succ', one-le-pow, mod-one, sub-zero, suc-sub-suc, mod-mul, getD}
 use Rattle.base.specs.Pick.{pick}
-use Rattle.key.specs.Ikey.{ikeyBytes}
+use Rattle.base.proofs.Choice.{by-test}
+use Rattle.key.specs.Ikey.{ikeyBytes, digits}
 use Rattle.layering.specs.Tree.{Fields}
 use Rattle.layering.specs.Accepted.{EndsHere, HasSuffix, Before}
 use Rattle.verify.specs.Check.{listed, fits, before, inRange}
 use Rattle.verify.proofs.Going.{Says, says-leb, says-ltb, says-eqb, says-and, says-or, says-as}
-use Rattle.verify.proofs.Zeros.{zero-bytes, bytes-zero}
 
+-- AN IKEY is zero-filled behind its first k bytes exactly where it is a multiple of 256 ^ (8 - k): by recursion on the number of bytes,
+-- one byte split off the remainder at a time.
+-- the highest of n + 1 bytes, and the rest
+top : (n x : ℕ) → x % 256 ^ suc n ≡ x / 256 ^ n % 256 * 256 ^ n + x % 256 ^ n
+top n x = rw (pow-succ' 256 n) (mod-mul x (omega arith) (one-le-pow n 256 (omega arith)))
+
+pub zero-bytes : (n k x : ℕ) → x % 256 ^ (n - k) ≡ 0 → (i : ℕ) → k ≤ i → getD (digits n x) i 0 ≡ 0
+unfolding digits
+zero-bytes zero k x e i h = refl
+zero-bytes (suc n) zero x e zero h = let l : x % 256 ^ suc n ≡ 0 = rw sub-zero at e in high (x / 256 ^ n % 256) (omega (arith, top n x))
+  where
+    high : (a : ℕ) → a * 256 ^ n ≡ 0 → a ≡ 0
+    high zero q = refl
+    high (suc a) q = absurd (omega (arith, one-le-pow n 256 (omega arith)))
+zero-bytes (suc n) zero x e (suc i) h =
+    let l : x % 256 ^ suc n ≡ 0 = rw sub-zero at e in zero-bytes n zero x (rw sub-zero (omega (arith, top n x))) i (omega arith)
+zero-bytes (suc n) (suc k) x e zero h = absurd (omega arith)
+zero-bytes (suc n) (suc k) x e (suc i) h = zero-bytes n k x (rw suc-sub-suc at e) i (omega arith)
+
+pub bytes-zero : (n k x : ℕ) → ((i : ℕ) → k ≤ i → getD (digits n x) i 0 ≡ 0) → x % 256 ^ (n - k) ≡ 0
+unfolding digits
+bytes-zero zero k x h = rw (let e : 0 - k ≡ 0 = omega arith in e) (mod-one x)
+bytes-zero (suc n) zero x h =
+    let l : x % 256 ^ n ≡ 0 = rw sub-zero at (bytes-zero n zero x (λ i b. h (suc i) (omega arith))) in
+    rw sub-zero (omega (arith, top n x, ap (λ (a : ℕ). a * 256 ^ n) (h 0 (omega arith))))
+bytes-zero (suc n) (suc k) x h = rw suc-sub-suc (bytes-zero n k x (λ i b. h (suc i) (omega arith)))
+
+-- SLOTS
 module _ (depth : ℕ) (s : Fields) where
   -- a key that ends here
   says-short : Says ((eqb depth 0 || ltb 0 (s .keylenx)) && eqb (s .ikey % 256 ^ (8 - s .keylenx)) 0)
@@ -26,23 +48,14 @@ module _ (depth : ℕ) (s : Fields) where
   -- a value slot's numbers 6 and 7
   pub value-kind : s .keylenx < 128 → (listed depth s ≡ true) × (fits depth s ≡ true) → EndsHere depth s ⊎ HasSuffix depth s
   unfolding listed fits pick ikeyBytes
-  value-kind small h = go (leb (s .keylenx) 8) refl
-    where
-      some-byte : (depth ≡ 0) ⊎ (0 < s .keylenx) → 0 < depth → 0 < s .keylenx
-      some-byte (inl e) d = absurd (omega arith)
-      some-byte (inr e) d = e
-
-      go : (b : Bool) → leb (s .keylenx) 8 ≡ b → EndsHere depth s ⊎ HasSuffix depth s
-      go true e =
-          let a = says-short .holds (rw e at (h .0)) in
-          inl (record { short = leb-true _ _ e; some = some-byte (a .0); filled = zero-bytes 8 (s .keylenx) (s .ikey) (a .1) })
-      go false e = suffixed (says-or (says-eqb (s .keylenx) 64) (says-leb 128 (s .keylenx)) .holds (rw e at (h .0)))
-        where
-          suffixed : (s .keylenx ≡ 64) ⊎ (128 ≤ s .keylenx) → EndsHere depth s ⊎ HasSuffix depth s
-          suffixed (inl q) =
-              let a = says-suffix .holds (rw (eq-eqb (s .keylenx) 64 q) at (h .1)) in
-              inr (record { long = q; some = a .0; fits = a .1 })
-          suffixed (inr q) = absurd (omega arith)
+  value-kind small h =
+      by-test (leb (s .keylenx) 8) (λ e.
+      let a = says-short .holds (rw e at (h .0)) in
+      let some : 0 < depth → 0 < s .keylenx = λ d. ⊎-elim (λ z. absurd (omega arith)) (λ q. q) (a .0) in
+      inl (record { short = leb-true _ _ e; some = some; filled = zero-bytes 8 (s .keylenx) (s .ikey) (a .1) }))
+      (λ e. ⊎-elim
+      (λ q. let a = says-suffix .holds (rw (eq-eqb (s .keylenx) 64 q) at (h .1)) in inr (record { long = q; some = a .0; fits = a .1 }))
+      (λ q. absurd (omega arith)) (says-or (says-eqb (s .keylenx) 64) (says-leb 128 (s .keylenx)) .holds (rw e at (h .0))))
 
   pub kind-value : EndsHere depth s ⊎ HasSuffix depth s → (listed depth s ≡ true) × (fits depth s ≡ true)
   unfolding listed fits pick ikeyBytes

@@ -1,21 +1,17 @@
 -- The check of a leaf ends without a fault exactly where the rules hold of it: its own tests around the check of its slots.
-use mathlib.Core.Bool.{true, not}
-use mathlib.Core.List.{List}
-use mathlib.Core.Path.{_≡_, refl}
-use Prim.Native.Nat.{ℕ, _+_, _≤_}
-use native.Mathlib.Omega.{arith}
-use lib.Dec.{eqb}
+use Rattle.base.specs.Kit.{true, not, List, _≡_, refl, ℕ, _+_, _≤_, arith, eqb, length}
 use Rattle.base.specs.Pick.{pick}
 use Rattle.node.specs.Version.{atRest}
 use Rattle.node.specs.Permuter.{sizeOf}
 use Rattle.node.specs.Layout.{versionAt, permutationAt, nextAt}
 use Rattle.layering.specs.Tree.{Node, Slots, slotsFrom, leafHead, leafAt}
 use Rattle.layering.specs.Accepted.{endN, endS, InPostOrderN, ShortPathsN, AscendN, InRangeN, firstN, LinkedN, IsPermutation, FieldsN}
-use Rattle.verify.specs.declared.Progress.{Progress}
+use Rattle.layering.proofs.Size.{leaves-fitS}
+use Rattle.verify.specs.Types.{Progress}
 use Rattle.verify.specs.Check.{stop, demand, reachable, inOrder, passLeaf, leafC}
 use Rattle.verify.proofs.Going.{says-eqb, says-self, runs-as, runs-to, runs-test, runs-demand, runs-then}
-use Rattle.verify.proofs.Records.{Reachable, says-reachable, reached, says-expected, says-permutes}
-use Rattle.verify.proofs.Places.{lastN, within, grownS, alignedS}
+use Rattle.verify.proofs.Records.{Reachable, says-reachable, says-expected, says-permutes}
+use Rattle.verify.proofs.Places.{lastN, within, alignedS}
 use Rattle.verify.proofs.Sound.{afterS, after-leaf, Ready, SoundN, SoundS, Checks}
 use Rattle.verify.proofs.Slots.{Layers, SlotsOk, slots-run}
 
@@ -25,8 +21,12 @@ pub leaf-reached : (image : List ℕ) (tree : ℕ → Node) (depth at lo hi size
 unfolding leafAt leafHead InPostOrderN endN SoundN
 leaf-reached image tree depth at lo hi size p b r h =
     let slots = slotsFrom tree image at 0 (sizeOf (permutationAt image at)) in
-    reached image size at (endS (p .place) slots) p (h .post .1)
-    (alignedS slots (p .place) (r .aligned)) (grownS slots (p .place)) (omega (arith, h .before))
+    let e = h .post .1 in
+    record {
+      aligned = rw e (alignedS slots (p .place) (r .aligned));
+      behind = omega (arith, e, leaves-fitS slots (p .place));
+      before = omega (arith, e, h .before);
+    }
 
 module _ (image : List ℕ) (sub : ℕ → Progress → Progress) (tree : ℕ → Node) (depth at lo hi : ℕ)
     (layers : Layers image (depth + 1) sub tree) where
@@ -57,32 +57,14 @@ module _ (image : List ℕ) (sub : ℕ → Progress → Progress) (tree : ℕ �
       runs-demand 2 (passLeaf (nextAt image at) (afterS p slots)) (says-eqb at (endS (p .place) slots)))))))))
     where
       to : Parts p → SoundN image depth lo hi p (leafAt tree image at)
-      to (reach, (rest, (first, (permutes, (s, e))))) = record {
-        post = (s .sound .post, e);
-        before = omega (arith, reach .before);
-        paths = s .sound .paths;
-        ascend = s .sound .ascend;
-        range = s .sound .range;
-        first = first;
-        links = (refl, s .sound .links);
-        fields = (rest, permutes, s .sound .fields);
-      }
+      to (reach, (rest, (first, (permutes, (s, e))))) =
+          let before : endS (p .place) slots + 400 + 32 ≤ length image = omega (arith, reach .before) in
+          let links : nextAt image at ≡ nextAt image at = refl in
+          search
 
       from : SoundN image depth lo hi p (leafAt tree image at) → Parts p
       from h =
-          let slots-ok : SlotsOk image depth at lo hi 0 size p slots = record {
-            sound = record {
-              post = h .post .0;
-              before = omega (arith, h .before);
-              within = within slots at (p .place) (h .post .0) (omega (arith, h .post .1));
-              paths = h .paths;
-              ascend = h .ascend;
-              range = h .range;
-              links = h .links .1;
-              fields = h .fields .2;
-            };
-            order = λ l. refl;
-          } in (
-            leaf-reached image tree depth at lo hi 400 p (omega arith) r h,
-            (h .fields .0, (h .first, (h .fields .1, (slots-ok, h .post .1)))),
-          )
+          let reached = leaf-reached image tree depth at lo hi 400 p (omega arith) r h in
+          let before : endS (p .place) slots + 32 ≤ length image = omega (arith, h .before) in
+          let inside = within slots at (p .place) (h .post .0) (omega (arith, h .post .1)) in
+          search

@@ -1,12 +1,9 @@
--- Facts about places and links that hold of every tree, in order or not: places only grow and stay multiples of 8, a
--- suffix at the place reached ends before its leaf, and what a linked subtree's last leaf names. By recursion on the tree.
-use mathlib.Core.Path.{_≡_, refl}
-use Prim.Native.Nat.{ℕ, _+_, _%_, _≤_}
-use native.Mathlib.Omega.{arith}
-use lib.Dec.{eqb}
-use borrow.Author.Tests.{eqb-false}
+-- Facts about places and links that hold of every tree, in order or not: places stay multiples of 8, a suffix at the place
+-- reached ends before its leaf, and what a linked subtree's last leaf names. By recursion on the tree.
+use Rattle.base.specs.Kit.{_≡_, refl, ℕ, _+_, _%_, _≤_, arith, eqb, eqb-false}
 use Rattle.base.proofs.Choice.{pick-ind}
 use Rattle.layering.specs.Tree.{Fields, Node, leaf, internode, beyond, Kids, last, more, Slots, none, value, layer}
+use Rattle.layering.proofs.Size.{leaves-fitS}
 use Rattle.layering.specs.Accepted.{room, endN, endK, endS, InPostOrderS, LinkedN, LinkedK}
 
 -- What a subtree's last leaf names as its next.
@@ -38,27 +35,10 @@ Within at none = Unit {0}
 Within at (value s r) = (s .keylenx ≡ 64 → s .start + s .len ≤ at) × Within at r
 Within at (layer s n r) = Within at r
 
--- PLACES only grow, and stay multiples of 8.
+-- PLACES stay multiples of 8.
 pub room-aligned : (s : Fields) → room s % 8 ≡ 0
 unfolding room
 room-aligned s = pick-ind (λ (r : ℕ). r % 8 ≡ 0) (eqb (s .keylenx) 64) (λ e. omega arith) (λ e. refl)
-
-mutual
-  unfolding endN
-
-  pub grownN : (n : Node) (at : ℕ) → at ≤ endN at n
-  grownN (leaf h s) at = omega (arith, grownS s at)
-  grownN (internode h k) at = omega (arith, grownK k at)
-  grownN beyond at = omega arith
-
-  pub grownK : (k : Kids) (at : ℕ) → at ≤ endK at k
-  grownK (last n) at = grownN n at
-  grownK (more n x k) at = omega (arith, grownN n at, grownK k (endN at n))
-
-  pub grownS : (s : Slots) (at : ℕ) → at ≤ endS at s
-  grownS none at = omega arith
-  grownS (value s r) at = omega (arith, grownS r (at + room s))
-  grownS (layer s n r) at = omega (arith, grownN n at, grownS r (endN at n))
 
 mutual
   unfolding endN
@@ -86,7 +66,7 @@ pub within : (s : Slots) (at place : ℕ) → InPostOrderS place s → endS plac
 unfolding InPostOrderS endS Within
 within none at place h b = tt
 within (value s r) at place h b = (
-  λ e. omega (arith, h .0 e, suffix-room s e, grownS r (place + room s)),
+  λ e. omega (arith, h .0 e, suffix-room s e, leaves-fitS r (place + room s)),
   within r at (place + room s) (h .1) b,
 )
 within (layer s n r) at place h b = within r at (endN place n) (h .1) b

@@ -1,16 +1,10 @@
 -- What the check's tests of a record say: number 3 on reaching it, a leaf's permutation, an internode's separators.
-use mathlib.Core.Bool.{Bool, true, false, true≢false}
-use mathlib.Core.List.{List}
-use mathlib.Core.Logic.{_⊎_, inl, inr}
-use mathlib.Core.Path.{_≡_, refl, sym, _∙_, subst}
-use Prim.Native.Nat.{ℕ, zero, suc, _+_, _%_, _≤_, _<_}
-use native.Mathlib.Nat.{eq-or-lt-of-le}
-use native.Mathlib.Omega.{arith}
-use lib.ListN.{length}
+use Rattle.base.specs.Kit.{true, true≢false, List, inl, inr, ⊎-elim, _≡_, refl, sym, _∙_, subst, ℕ, zero, suc, _+_, _%_, _≤_, _<_, eq-or-lt-of-le, arith, length}
+use Rattle.base.proofs.Choice.{by-test}
 use Rattle.node.specs.Permuter.{slotAt}
 use Rattle.node.specs.Layout.{separatorAt}
 use Rattle.layering.specs.Accepted.{IsPermutation}
-use Rattle.verify.specs.declared.Progress.{Progress}
+use Rattle.verify.specs.Types.{Progress}
 use Rattle.verify.specs.Check.{reachable, expected, freshFrom, permutesFrom, permutes, separatorsFrom}
 use Rattle.verify.proofs.Going.{Says, says-leb, says-ltb, says-eqb, says-and, says-or, says-not, says-self, says-as}
 
@@ -23,34 +17,20 @@ pub record Reachable (image : List ℕ) (size at : ℕ) (p : Progress) : Type 0 
 pub says-reachable : (image : List ℕ) (size at : ℕ) (p : Progress) → Says (reachable image size at p) (Reachable image size at p)
 unfolding reachable
 says-reachable image size at p =
-    says-as (λ h. record { aligned = h .0; behind = h .1 .0; before = h .1 .1 }) (λ h. (h .aligned, (h .behind, h .before)))
+    says-as (λ h. search) (λ h. search)
     (says-and (says-eqb (at % 8) 0) (says-and (says-leb (p .place) at) (says-leb (at + size + 32) (length image))))
-
--- a record that lies where the place reached has come to
-pub reached : (image : List ℕ) (size at end : ℕ) (p : Progress) → at ≡ end → end % 8 ≡ 0 → p .place ≤ end
-    → end + size + 32 ≤ length image → Reachable image size at p
-reached image size at end p e a b c = record { aligned = rw e a; behind = omega arith; before = omega arith }
 
 -- NUMBER 9
 pub says-expected : (at : ℕ) (p : Progress) → Says (expected at p) (p .chained ≡ true → p .next ≡ at)
 unfolding expected
-says-expected at p = says-as apart (join (p .chained) refl) (says-or (says-not (says-self (p .chained))) (says-eqb (p .next) at))
-  where
-    apart : (p .chained ≡ true → ⊥) ⊎ (p .next ≡ at) → p .chained ≡ true → p .next ≡ at
-    apart (inl h) e = absurd (h e)
-    apart (inr h) e = h
-
-    join : (b : Bool) → p .chained ≡ b → (p .chained ≡ true → p .next ≡ at) → (p .chained ≡ true → ⊥) ⊎ (p .next ≡ at)
-    join true e h = inr (h e)
-    join false e h = inl (λ q. true≢false (sym q ∙ e))
+says-expected at p =
+    says-as (λ h e. ⊎-elim (λ n. absurd (n e)) (λ q. q) h)
+    (λ h. by-test (p .chained) (λ e. inr (h e)) (λ e. inl (λ q. true≢false (sym q ∙ e))))
+    (says-or (says-not (says-self (p .chained))) (says-eqb (p .next) at))
 
 -- from i on, and from the next on
 from-next : (P : ℕ → Type 0) (i n : ℕ) → P i → ((j : ℕ) → i + 1 ≤ j → j < i + 1 + n → P j) → (j : ℕ) → i ≤ j → j < i + suc n → P j
-from-next P i n a f j h b = go (eq-or-lt-of-le h)
-  where
-    go : (i ≡ j) ⊎ (i < j) → P j
-    go (inl e) = subst P e a
-    go (inr l) = f j (omega arith) (omega arith)
+from-next P i n a f j h b = ⊎-elim (λ e. subst P e a) (λ l. f j (omega arith) (omega arith)) (eq-or-lt-of-le h)
 
 -- NUMBER 5. `field i` is the slot at position i.
 module _ (permutation : ℕ) where

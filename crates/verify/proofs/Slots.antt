@@ -1,23 +1,16 @@
 -- The check of a leaf's slots ends without a fault exactly where the rules hold of them: by recursion on the slots left. The
 -- check of a layer below comes in as a function, with what is known of it.
-use mathlib.Core.Bool.{Bool, true, false, not, _&&_, false≢true}
-use mathlib.Core.List.{List}
-use mathlib.Core.Path.{_≡_, refl, subst}
-use Prim.Native.Nat.{ℕ, zero, suc, _+_, _^_, _≤_, _<_}
-use native.Mathlib.Numerals.{add-one}
-use native.Mathlib.Omega.{arith}
-use lib.Dec.{leb, eqb}
-use lib.ListN.{length}
-use borrow.Author.Tests.{leb-true, leb-false, le-leb, lt-leb, eqb-true, eqb-false}
+use Rattle.base.specs.Kit.{Bool, true, false, not, _&&_, false≢true, List, _≡_, refl, subst, ℕ, zero, suc, _+_, _^_, _≤_, _<_, add-one, arith, leb, eqb, length, leb-true, leb-false, le-leb, lt-leb, eqb-true, eqb-false}
 use Rattle.base.specs.Pick.{pick}
-use Rattle.base.proofs.Choice.{pick-ind}
+use Rattle.base.proofs.Choice.{pick-ind, by-test}
 use Rattle.layering.specs.Tree.{Fields, fieldsAt, Node, Slots, none, value, layer, slotsFrom}
-use Rattle.layering.specs.Accepted.{room, endN, endS, InPostOrderS, ShortPathsS, Before, BeforeFirst, AscendS, InRangeS, LinkedN, LinkedS, FieldsS}
-use Rattle.verify.specs.declared.Progress.{Progress}
+use Rattle.layering.specs.Accepted.{room, endN, endS, InPostOrderS, ShortPathsS, Before, BeforeFirst, AscendS, InRangeS, firstN, LinkedN, LinkedS, FieldsS}
+use Rattle.layering.proofs.Size.{leaves-fitS}
+use Rattle.verify.specs.Types.{Progress}
 use Rattle.verify.specs.Check.{stop, each, passSuffix, enterLayer, leaveLayer, listed, fits, before, inOrder, inRange, suffixC, layerSlotC, slotC}
 use Rattle.verify.proofs.Going.{says-leb, says-eqb, says-and, says-self, Runs, runs-as, runs-to, runs-here, runs-test, runs-demand, runs-then}
 use Rattle.verify.proofs.Fields.{value-kind, kind-value, layer-kind, kind-layer, says-before, says-range}
-use Rattle.verify.proofs.Places.{lastN, linked-lastN, Within, room-aligned, grownS, alignedN}
+use Rattle.verify.proofs.Places.{lastN, linked-lastN, Within, room-aligned, alignedN}
 use Rattle.verify.proofs.Sound.{afterN, afterS, behind, after-none, after-value, after-layer, Ready, SoundN, SoundS}
 
 -- The rules for a layer.
@@ -81,8 +74,7 @@ module _ (image : List ℕ) (sub : ℕ → Progress → Progress) (tree : ℕ �
   tested i r =
       let ordered = runs-test 7 (says-and (says-self (inOrder image at i)) (says-range lo hi (slot i))) (λ h. r) in
       let fitting = runs-test 6 (says-self (fits depth (slot i))) (λ h. ordered) in
-      runs-as (λ h. record { kind = (h .0, h .1 .0); order = h .1 .1 .0 .0; range = h .1 .1 .0 .1; part = h .1 .1 .1 })
-      (λ h. (h .kind .0, (h .kind .1, ((h .order, h .range), h .part))))
+      runs-as (λ h. search) (λ h. search)
       (runs-test 5 (says-self (listed depth (slot i))) (λ h. fitting))
 
   value-runs : (i : ℕ) (p : Progress) → slot i .keylenx < 128
@@ -92,7 +84,7 @@ module _ (image : List ℕ) (sub : ℕ → Progress → Progress) (tree : ℕ �
 
   layer-runs : (i : ℕ) (p : Progress) → Ready image p → 128 ≤ slot i .keylenx
       → Runs (slotC sub image depth at lo hi i p) (Tested i (SoundLayer image (depth + 1) (enterLayer p) (below i))) (behind p (below i))
-  unfolding slotC pick layerSlotC behind enterLayer afterN
+  unfolding slotC pick layerSlotC behind afterN
   layer-runs i p r big =
       let entered : Ready image (enterLayer p) = record { going = r .going; aligned = r .aligned; before = r .before } in
       rw (le-leb 128 (slot i .keylenx) big) (tested i (runs-as (λ h. h .0) (λ h. (h, tt))
@@ -133,7 +125,7 @@ module _ (image : List ℕ) (sub : ℕ → Progress → Progress) (tree : ℕ �
     others = slotsFrom tree image at (i + 1) n
 
     value-more : slot i .keylenx < 128 → Slotted i (suc n) p
-    unfolding each slotsFrom pick InPostOrderS Within endS ShortPathsS AscendS InRangeS LinkedS FieldsS passSuffix Suffixed SoundS
+    unfolding each slotsFrom pick InPostOrderS Within endS ShortPathsS AscendS InRangeS LinkedS FieldsS Suffixed SoundS
     value-more small =
         rw (lt-leb 128 (slot i .keylenx) small)
         (runs-to (after-value p (slot i) others) (runs-as to from
@@ -150,45 +142,23 @@ module _ (image : List ℕ) (sub : ℕ → Progress → Progress) (tree : ℕ �
         Parts = Tested i (Suffixed at (slot i) p) × Sound (i + 1) n (passSuffix (room (slot i)) p) others
 
         to : Parts → Sound i (suc n) p (value (slot i) others)
-        to (t, s) = record {
-          sound = record {
-            post = (λ e. t .part e .0, s .sound .post);
-            before = s .sound .before;
-            within = (λ e. t .part e .1, s .sound .within);
-            paths = s .sound .paths;
-            ascend = (next-order i n (s .order), s .sound .ascend);
-            range = (t .range .0, t .range .1, s .sound .range);
-            links = s .sound .links;
-            fields = (value-kind depth (slot i) small (t .kind), s .sound .fields);
-          };
-          order = λ l. t .order;
-        }
+        to (t, s) =
+            let first = next-order i n (s .order) in
+            let kind = value-kind depth (slot i) small (t .kind) in
+            let start : slot i .keylenx ≡ 64 → slot i .start ≡ p .place = λ e. t .part e .0 in
+            let end : slot i .keylenx ≡ 64 → slot i .start + slot i .len ≤ at = λ e. t .part e .1 in
+            search
 
         from : Sound i (suc n) p (value (slot i) others) → Parts
-        from h = (
-          record {
-            kind = kind-value depth (slot i) (h .sound .fields .0);
-            order = h .order (omega arith);
-            range = (h .sound .range .0, h .sound .range .1);
-            part = λ e. (h .sound .post .0 e, h .sound .within .0 e);
-          },
-          record {
-            sound = record {
-              post = h .sound .post .1;
-              before = h .sound .before;
-              within = h .sound .within .1;
-              paths = h .sound .paths;
-              ascend = h .sound .ascend .1;
-              range = h .sound .range .2;
-              links = h .sound .links;
-              fields = h .sound .fields .1;
-            };
-            order = order-next i n (h .sound .ascend .0);
-          },
-        )
+        from h =
+            let kind = kind-value depth (slot i) (h .sound .fields .0) in
+            let order = h .order (omega arith) in
+            let next = order-next i n (h .sound .ascend .0) in
+            let part : Suffixed at (slot i) p = λ e. (h .sound .post .0 e, h .sound .within .0 e) in
+            search
 
     layer-more : 128 ≤ slot i .keylenx → Slotted i (suc n) p
-    unfolding each slotsFrom pick InPostOrderS Within endS ShortPathsS AscendS InRangeS LinkedS FieldsS behind enterLayer leaveLayer afterN SoundN SoundS
+    unfolding each slotsFrom pick InPostOrderS Within endS ShortPathsS AscendS InRangeS LinkedS FieldsS behind leaveLayer afterN SoundN SoundS
     layer-more big =
         rw (le-leb 128 (slot i .keylenx) big)
         (runs-to (after-layer p (slot i) (below i) others) (runs-as to from
@@ -201,55 +171,23 @@ module _ (image : List ℕ) (sub : ℕ → Progress → Progress) (tree : ℕ �
         Parts = Tested i (SoundLayer image (depth + 1) (enterLayer p) (below i)) × Sound (i + 1) n (behind p (below i)) others
 
         to : Parts → Sound i (suc n) p (layer (slot i) (below i) others)
-        to (t, s) = record {
-          sound = record {
-            post = (t .part .sound .post, s .sound .post);
-            before = s .sound .before;
-            within = s .sound .within;
-            paths = (t .part .sound .paths, s .sound .paths);
-            ascend = (next-order i n (s .order), t .part .sound .ascend, s .sound .ascend);
-            range = (t .range .0, t .range .1, t .part .sound .range, s .sound .range);
-            links = (subst (λ (x : ℕ). LinkedN x (below i)) (t .part .ends) (t .part .sound .links), s .sound .links);
-            fields = (layer-kind depth (slot i) big (t .kind .1), t .part .sound .fields, s .sound .fields);
-          };
-          order = λ l. t .order;
-        }
+        to (t, s) =
+            let first = next-order i n (s .order) in
+            let deep = layer-kind depth (slot i) big (t .kind .1) in
+            let links = subst (λ (x : ℕ). LinkedN x (below i)) (t .part .ends) (t .part .sound .links) in
+            search
 
         from : Sound i (suc n) p (layer (slot i) (below i) others) → Parts
         from h =
-            let ends : lastN (below i) ≡ 0 = linked-lastN (below i) 0 (h .sound .links .0) in (
-              record {
-                kind = kind-layer depth (slot i) big (h .sound .fields .0);
-                order = h .order (omega arith);
-                range = (h .sound .range .0, h .sound .range .1);
-                part = record {
-                  sound = record {
-                    post = h .sound .post .0;
-                    before = omega (arith, h .sound .before, grownS others (endN (p .place) (below i)));
-                    paths = h .sound .paths .0;
-                    ascend = h .sound .ascend .1;
-                    range = h .sound .range .2;
-                    first = λ e. absurd (false≢true e);
-                    links = rw ends (h .sound .links .0);
-                    fields = h .sound .fields .1;
-                  };
-                  ends = ends;
-                };
-              },
-              record {
-                sound = record {
-                  post = h .sound .post .1;
-                  before = h .sound .before;
-                  within = h .sound .within;
-                  paths = h .sound .paths .1;
-                  ascend = h .sound .ascend .2;
-                  range = h .sound .range .3;
-                  links = h .sound .links .1;
-                  fields = h .sound .fields .2;
-                };
-                order = order-next i n (h .sound .ascend .0);
-              },
-            )
+            let kind = kind-layer depth (slot i) big (h .sound .fields .0) in
+            let order = h .order (omega arith) in
+            let next = order-next i n (h .sound .ascend .0) in
+            let ends : lastN (below i) ≡ 0 = linked-lastN (below i) 0 (h .sound .links .0) in
+            let links : LinkedN (lastN (below i)) (below i) = rw ends (h .sound .links .0) in
+            let before : endN (p .place) (below i) + 32 ≤ length image =
+            omega (arith, h .sound .before, leaves-fitS others (endN (p .place) (below i))) in
+            let fresh : false ≡ true → 0 ≡ firstN (below i) = λ e. absurd (false≢true e) in
+            search
 
   pub slots-run : at + 432 ≤ length image → (n i : ℕ) (p : Progress) → Ready image p
       → Runs (each (slotC sub image depth at lo hi) i n p) (SlotsOk image depth at lo hi i n p (slotsFrom tree image at i n))
@@ -258,12 +196,7 @@ module _ (image : List ℕ) (sub : ℕ → Progress → Progress) (tree : ℕ �
   slots-run in-image zero i p r = runs-to (after-none p) (runs-as (λ h. nothing) (λ h. tt) (runs-here p))
     where
       nothing : Sound i 0 p none
-      nothing = record {
-        sound = record { post = tt; before = r .before; within = tt; paths = tt; ascend = tt; range = tt; links = tt; fields = tt };
-        order = λ l. absurd (omega arith);
-      }
-  slots-run in-image (suc n) i p r = go (leb 128 (slot i .keylenx)) refl (slots-run in-image n (i + 1))
-    where
-      go : (b : Bool) → leb 128 (slot i .keylenx) ≡ b → ((q : Progress) → Ready image q → Slotted (i + 1) n q) → Slotted i (suc n) p
-      go true e rest = layer-more in-image i n p r rest (leb-true _ _ e)
-      go false e rest = value-more in-image i n p r rest (leb-false _ _ e)
+      nothing = let order : 0 < 0 → inOrder image at i ≡ true = λ l. absurd (omega arith) in search tt
+  slots-run in-image (suc n) i p r =
+      by-test (leb 128 (slot i .keylenx)) (λ e. layer-more in-image i n p r (slots-run in-image n (i + 1)) (leb-true _ _ e))
+      (λ e. value-more in-image i n p r (slots-run in-image n (i + 1)) (leb-false _ _ e))

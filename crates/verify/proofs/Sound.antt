@@ -1,16 +1,10 @@
 -- All the rules for a subtree in one record, between the ends and from the place where the check reaches it, and what the
 -- check has come to behind it. The rule on links is said of what the subtree's last leaf names (`lastN`).
-use mathlib.Core.Bool.{true}
-use mathlib.Core.List.{List}
-use mathlib.Core.Path.{_≡_, ap}
-use Prim.Native.Nat.{ℕ, _+_, _%_, _≤_}
-use native.Mathlib.Omega.{arith}
-use lib.ListN.{length}
+use Rattle.base.specs.Kit.{true, List, _≡_, ap, ℕ, _+_, _%_, _≤_, arith, length}
 use Rattle.layering.specs.Tree.{Fields, LeafHead, Node, leaf, Kids, more, Slots, none, value, layer}
 use Rattle.layering.specs.Keys.{leavesN, leavesK, leavesS, valuesN, valuesK, valuesS, layersN, layersK, layersS}
 use Rattle.layering.specs.Accepted.{room, endN, endK, endS, InPostOrderN, InPostOrderK, InPostOrderS, ShortPathsN, ShortPathsK, ShortPathsS, AscendN, AscendK, AscendS, InRangeN, InRangeK, InRangeS, firstN, firstK, LinkedN, LinkedK, LinkedS, FieldsN, FieldsK, FieldsS}
-use Rattle.verify.specs.declared.Counts.{Counts}
-use Rattle.verify.specs.declared.Progress.{Progress}
+use Rattle.verify.specs.Types.{Counts, Progress}
 use Rattle.verify.specs.Check.{passSuffix, passLeaf, enterLayer, leaveLayer}
 use Rattle.verify.proofs.Going.{Runs}
 use Rattle.verify.proofs.Places.{lastN, lastK, Within, alignedN}
@@ -69,7 +63,7 @@ unfolding afterS added endS leavesS valuesS layersS
 after-none p = recount (afterS p none) p (omega arith) (omega arith) (omega arith)
 
 pub after-value : (p : Progress) (s : Fields) (r : Slots) → afterS (passSuffix (room s) p) r ≡ afterS p (value s r)
-unfolding afterS added endS leavesS valuesS layersS passSuffix
+unfolding afterS added endS leavesS valuesS layersS
 after-value p s r =
     recount (afterS p (value s r)) (afterS (passSuffix (room s) p) r) (omega arith) (omega arith) (omega arith)
 
@@ -78,7 +72,7 @@ unfoldable pub behind : Progress → Node → Progress
 behind p n = leaveLayer p (afterN (enterLayer p) n)
 
 pub after-layer : (p : Progress) (s : Fields) (n : Node) (r : Slots) → afterS (behind p n) r ≡ afterS p (layer s n r)
-unfolding behind afterN afterS added endS leavesS valuesS layersS enterLayer leaveLayer
+unfolding behind afterN afterS added endS leavesS valuesS layersS leaveLayer
 after-layer p s n r =
     recount (afterS p (layer s n r)) (afterS (behind p n) r) (omega arith) (omega arith) (omega arith)
 

@@ -1,29 +1,19 @@
 -- THE THEOREM: the check accepts an image exactly where `Obeys` holds of it, with the tree's three numbers. The tests before
 -- and behind the tree are taken apart here; the tree itself is `layers-run`.
-use mathlib.Core.Bool.{Bool, true, false, not, _&&_, false≢true}
-use mathlib.Core.List.{List}
-use mathlib.Core.Path.{_≡_, refl, ap, sym, _∙_, subst}
-use Prim.Native.Nat.{ℕ, _+_, _%_, _≤_}
-use native.Mathlib.Omega.{arith}
-use lib.Dec.{eqb}
-use lib.ListN.{length}
-use borrow.Author.Tests.{eq-eqb}
+use Rattle.base.specs.Kit.{Bool, true, false, not, false≢true, List, _≡_, refl, ap, sym, _∙_, subst, ℕ, _+_, _-_, _%_, _≤_, arith, eqb, length, eq-eqb}
 use Rattle.base.specs.Pick.{pick}
 use Rattle.node.specs.Layout.{rootOffset, keyCount, statedLength, edition}
 use Rattle.node.specs.Heading.{lengthOk, headingFault}
 use Rattle.layering.specs.Tree.{Node, treeOf}
 use Rattle.layering.specs.Keys.{leavesN, valuesN, layersN}
-use Rattle.layering.specs.Accepted.{LinkedN, Obeys}
-use Rattle.verify.specs.declared.Counts.{Counts}
-use Rattle.verify.specs.declared.Checked.{Checked}
-use Rattle.verify.specs.declared.Checked.the-variants.{Declined}
-use Rattle.verify.specs.declared.Progress.{Progress}
+use Rattle.layering.specs.Accepted.{endN, firstN, LinkedN, Obeys}
+use Rattle.verify.specs.Types.{Counts, Checked, Declined, Progress}
 use Rattle.verify.specs.Check.{accepted, countsOf, layerC, begin, finish, check}
 use Rattle.verify.proofs.Going.{Says, says-leb, says-eqb, says-and, Runs}
 use Rattle.verify.proofs.Places.{lastN, linked-lastN}
 use Rattle.verify.proofs.Sound.{added, afterN, same-counts, SoundN}
 use Rattle.verify.proofs.Slots.{SoundLayer}
-use Rattle.verify.proofs.Layers.{layers-run}
+use Rattle.verify.proofs.Subtrees.{layers-run}
 
 -- A tree's three numbers.
 unfoldable pub treeCounts : Node → Counts
@@ -52,13 +42,9 @@ says-headed image =
         → eqb (pick s (pick t (pick u 0 2) 2) 1) 0 ≡ true → Headed image
     apart true true true e f g h =
         let a = sized .holds e in
-        record {
-          long = a .0;
-          short = a .1 .0;
-          whole = a .1 .1;
-          stated = says-eqb (statedLength image) (length image) .holds f;
-          first-edition = says-eqb (edition image) 1 .holds g;
-        }
+        let stated = says-eqb (statedLength image) (length image) .holds f in
+        let first-edition = says-eqb (edition image) 1 .holds g in
+        search
     apart true true false e f g h = absurd (let z : _≡_ {A = ℕ} 0 1 = cc in omega arith)
     apart true false u e f g h = absurd (let z : _≡_ {A = ℕ} 0 1 = cc in omega arith)
     apart false t u e f g h = absurd (let z : _≡_ {A = ℕ} 0 1 = cc in omega arith)
@@ -86,15 +72,15 @@ module _ (image : List ℕ) where
   whole = layerC image 31 (rootOffset image) begin
 
   run : 440 ≤ length image → Runs whole (SoundLayer image 0 begin (treeOf image)) (afterN begin (treeOf image))
-  unfolding whole treeOf begin
+  unfolding whole treeOf
   run b = layers-run image 31 (omega arith) (rootOffset image) begin (record { going = refl; aligned = refl; before = omega arith }) refl
 
   counted : afterN begin (treeOf image) .counts ≡ treeCounts (treeOf image)
-  unfolding afterN added begin treeCounts
+  unfolding afterN added treeCounts
   counted = same-counts (omega arith) (omega arith) (omega arith)
 
   pub accepted-obeys : (c : Counts) → check image ≡ accepted c → Obeys image × (c ≡ treeCounts (treeOf image))
-  unfolding check finish whole afterN begin treeCounts SoundN
+  unfolding check finish whole afterN treeCounts SoundN
   accepted-obeys c e =
       let heading = accepts (eqb (headingFault image) 0) _ _ c e in
       let h : Headed image = says-headed image .holds (heading .0) in
@@ -103,49 +89,22 @@ module _ (image : List ℕ) where
       let count = accepts (eqb (keyCount image) (whole .counts .«value_slots»)) _ _ c (ended .1) in
       let s : SoundLayer image 0 begin (treeOf image) = run (h .long) .only (says-eqb (whole .fault) 0 .holds (going .0)) in
       let q : whole ≡ afterN begin (treeOf image) = run (h .long) .comes s in
-      let n : whole .counts ≡ treeCounts (treeOf image) = ap (λ (p : Progress). p .counts) q ∙ counted in (
-        record {
-          long = h .long;
-          short = h .short;
-          whole = h .whole;
-          stated = h .stated;
-          first-edition = h .first-edition;
-          post-order = s .sound .post;
-          to-trailer = omega (arith, says-eqb (whole .place + 32) (length image) .holds (ended .0), ap (λ (p : Progress). p .place) q);
-          paths = s .sound .paths;
-          slots = s .sound .ascend;
-          separators = s .sound .range;
-          links = subst (λ (x : ℕ). LinkedN x (treeOf image)) (s .ends) (s .sound .links);
-          fields = s .sound .fields;
-          count = says-eqb (keyCount image) (whole .counts .«value_slots») .holds (count .0) ∙ ap (λ (d : Counts). d .«value_slots») n;
-        },
-        same-numbers (whole .counts) c (count .1) ∙ n,
-      )
+      let n : whole .counts ≡ treeCounts (treeOf image) = ap (λ (p : Progress). p .counts) q ∙ counted in
+      let end = says-eqb (whole .place + 32) (length image) .holds (ended .0) in
+      let to-trailer : endN 8 (treeOf image) ≡ length image - 32 = omega (arith, end, ap (λ (p : Progress). p .place) q) in
+      let links = subst (λ (x : ℕ). LinkedN x (treeOf image)) (s .ends) (s .sound .links) in
+      let values = says-eqb (keyCount image) (whole .counts .«value_slots») .holds (count .0) ∙ ap (λ (d : Counts). d .«value_slots») n in
+      (search, same-numbers (whole .counts) c (count .1) ∙ n)
 
   pub obeys-accepted : Obeys image → check image ≡ accepted (treeCounts (treeOf image))
-  unfolding check pick whole afterN begin treeCounts SoundN
+  unfolding check pick whole afterN treeCounts SoundN
   obeys-accepted o =
-      let h : Headed image = record {
-        long = o .long;
-        short = o .short;
-        whole = o .whole;
-        stated = o .stated;
-        first-edition = o .first-edition;
-      } in
+      let h : Headed image = search in
       let ends : lastN (treeOf image) ≡ 0 = linked-lastN (treeOf image) 0 (o .links) in
-      let q : whole ≡ afterN begin (treeOf image) = run (o .long) .comes (record {
-        sound = record {
-          post = o .post-order;
-          before = omega (arith, o .to-trailer, o .long);
-          paths = o .paths;
-          ascend = o .slots;
-          range = o .separators;
-          first = λ e. absurd (false≢true e);
-          links = rw ends (o .links);
-          fields = o .fields;
-        };
-        ends = ends;
-      }) in
+      let links : LinkedN (lastN (treeOf image)) (treeOf image) = rw ends (o .links) in
+      let before : endN 8 (treeOf image) + 32 ≤ length image = omega (arith, o .to-trailer, o .long) in
+      let fresh : false ≡ true → 0 ≡ firstN (treeOf image) = λ e. absurd (false≢true e) in
+      let q : whole ≡ afterN begin (treeOf image) = run (o .long) .comes (search) in
       let c : whole .counts ≡ treeCounts (treeOf image) = ap (λ (p : Progress). p .counts) q ∙ counted in
       rw (says-headed image .passes h)
       (finish-accepts image whole (ap (λ (p : Progress). p .fault) q)

@@ -1,24 +1,13 @@
 -- What the check's inner functions answer, each in the order of its tests, and what the cases of their answers stand for.
 -- proofs/Steps.antt proves that they come to the check (specs/Check.antt).
-use mathlib.Core.Bool.{true, false, not, _&&_}
-use mathlib.Core.List.{List, []}
-use mathlib.Core.Path.{_≡_}
-use Prim.Native.Nat.{ℕ, zero, suc, _+_, _*_, _/_, _≤_}
-use lib.Dec.{leb, eqb}
-use lib.ListN.{length}
+use Rattle.base.specs.Kit.{true, false, not, _&&_, List, [], _≡_, ℕ, zero, suc, _+_, _*_, _/_, _≤_, leb, eqb, length}
 use Rattle.base.specs.Pick.{pick}
 use Rattle.node.specs.Version.{isLeaf, atRest}
 use Rattle.node.specs.Permuter.{slotAt}
 use Rattle.node.specs.Layout.{versionAt, permutationAt, ikeyAt, keylenxAt, valueAt, suffixAt, nextAt, nkeysAt}
-use Rattle.node.specs.declared.permuter.Slot.{Slot}
-use Rattle.node.specs.declared.leaf.Suffix.{Suffix}
+use Rattle.verify.specs.Types.{Slot, Suffix, Progress, RecordCheck, Leaf, Internode, RecordCheckFault as Fault, SlotCheck, Layer, Passed, SlotCheckFault as SlotFault}
 use Rattle.layering.specs.Tree.{Fields}
 use Rattle.verify.specs.Check.{stop, andThen, demand, passSuffix, passLeaf, enterLayer, leaveLayer, reachable, expected, permutes, separatorsFrom, listed, fits, inOrder, inRange, layerC}
-use Rattle.verify.specs.declared.Progress.{Progress}
-use Rattle.verify.specs.declared.RecordCheck.{RecordCheck}
-use Rattle.verify.specs.declared.RecordCheck.the-variants.{Leaf, Internode, Fault}
-use Rattle.verify.specs.declared.SlotCheck.{SlotCheck}
-use Rattle.verify.specs.declared.SlotCheck.the-variants.{Layer, Passed, Fault as SlotFault}
 
 -- A record that was reached: what its leaf or its children come to, or the fault.
 unfoldable pub afterRecord : RecordCheck → Progress → Progress → Progress

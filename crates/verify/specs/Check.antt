@@ -1,10 +1,6 @@
 -- The check's answer for every byte list (01, "Check an image"). The tree is gone through in post-order, "the first fault
 -- deciding"; each test stands where 01 has it.
-use mathlib.Core.Bool.{Bool, true, false, not, _&&_, _||_}
-use mathlib.Core.List.{List}
-use Prim.Native.Nat.{ℕ, zero, suc, _+_, _*_, _/_, _%_, _-_, _^_}
-use lib.Dec.{leb, ltb, eqb}
-use lib.ListN.{length}
+use Rattle.base.specs.Kit.{Bool, true, false, not, _&&_, _||_, List, ℕ, zero, suc, _+_, _*_, _%_, _-_, _^_, leb, ltb, eqb, length}
 use Rattle.base.specs.Pick.{pick}
 use Rattle.node.specs.Version.{isLeaf, atRest}
 use Rattle.node.specs.Permuter.{sizeOf, slotAt}
@@ -12,10 +8,7 @@ use Rattle.node.specs.Layout.{versionAt, permutationAt, nextAt, nkeysAt, separa
 use Rattle.node.specs.Heading.{headingFault}
 use Rattle.layering.specs.Tree.{Fields, fieldsAt}
 use Rattle.layering.specs.Accepted.{room}
-use Rattle.verify.specs.declared.Counts.{Counts}
-use Rattle.verify.specs.declared.Checked.{Checked}
-use Rattle.verify.specs.declared.Checked.the-variants.{Accepted, Declined}
-use Rattle.verify.specs.declared.Progress.{Progress}
+use Rattle.verify.specs.Types.{Counts, Checked, Accepted, Declined, Progress}
 
 -- 01's number of an answer, 0 for acceptance, and its values: "Acceptance gives the numbers of leaves, value slots and
 -- sub-layers"; "A declined call returns its number, zero elsewhere".
@@ -31,7 +24,7 @@ unfoldable pub accepted : Counts → Checked
 accepted c = Accepted (c .leaves) (c .«value_slots») (c .«sub_layers»)
 
 -- GOING ON. Nothing is looked at behind a fault.
-unfoldable pub stop : ℕ → Progress
+abbrev pub stop : ℕ → Progress
 stop n = record { fault = n; place = 0; chained = false; next = 0; counts = record { leaves = 0; «value_slots» = 0; «sub_layers» = 0 } }
 
 unfoldable pub andThen : Progress → (Progress → Progress) → Progress
@@ -47,7 +40,7 @@ unfoldable pub demand : ℕ → Bool → Progress → Progress
 demand n test p = pick test p (stop n)
 
 -- What a part of the tree adds to the progress.
-unfoldable pub passSuffix : ℕ → Progress → Progress
+abbrev pub passSuffix : ℕ → Progress → Progress
 passSuffix bytes p = record {
   fault = p .fault;
   place = p .place + bytes;
@@ -69,7 +62,7 @@ unfoldable pub passInternode : Progress → Progress
 passInternode p = record { fault = p .fault; place = p .place + 256; chained = p .chained; next = p .next; counts = p .counts }
 
 -- A sub-layer has a chain of leaves of its own; behind it that of the layer above goes on.
-unfoldable pub enterLayer : Progress → Progress
+abbrev pub enterLayer : Progress → Progress
 enterLayer p = record {
   fault = p .fault;
   place = p .place;
@@ -206,7 +199,7 @@ finish image p =
     (pick (not (eqb (keyCount image) (p .counts .«value_slots»))) (Declined 10) (accepted (p .counts))))
 
 -- Before the first record: nothing is counted, and records begin at byte 8.
-unfoldable pub begin : Progress
+abbrev pub begin : Progress
 begin = record { fault = 0; place = 8; chained = false; next = 0; counts = record { leaves = 0; «value_slots» = 0; «sub_layers» = 0 } }
 
 -- THE CHECK.

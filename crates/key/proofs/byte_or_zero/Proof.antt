@@ -1,7 +1,5 @@
 -- `key::byte_or_zero` meets its contract: past the key's end `getD` gives its default, 0. Assumes nothing.
-use mathlib.Core.Path.{sym}
-use lib.ListN.{List·getD-eq-default}
-use borrow.Author.Needs.{needs}
+use Rattle.base.specs.Kit.{sym, List·getD-eq-default, needs}
 use Rattle.key.proofs.byte_or_zero.Statement.{statement}
 use Rattle.key.proofs.byte_or_zero.Tie as tie
 
@@ -9,10 +7,4 @@ returns-2 : tie.Need-returns-2
 returns-2 c = sym (List·getD-eq-default (c .before .before .args .key .now) 0 (c .if1 .left))
 
 pub byte-or-zero-spec : {M : Type 1} → statement M
-byte-or-zero-spec =
-    tie.close
-    (tie.spec
-    (λ c. search needs)
-    (λ c κs. search needs)
-    (λ c. search needs)
-    returns-2)
+byte-or-zero-spec = tie.close (tie.spec (search needs) (search needs) (search needs) returns-2)

@@ -1,12 +1,6 @@
 -- `key::copy_in` meets its contract. The loop's invariant: the buffer is the one that came in with the first i bytes pasted
 -- in. The measure is what is left of the bytes. Assumes nothing.
-use mathlib.Core.Path.{_≡_, _∙_}
-use Prim.Native.Nat.{_+_, _-_, _≤_, _<_}
-use native.Mathlib.Numerals.{add-one}
-use native.Mathlib.Omega.{arith}
-use lib.ListN.{length, length-set}
-use lib.Seq.{paste, paste-zero, paste-suc}
-use borrow.Author.Needs.{needs}
+use Rattle.base.specs.Kit.{_≡_, _∙_, _+_, _-_, _≤_, _<_, add-one, arith, length, length-set, paste, paste-zero, paste-suc, needs}
 use Rattle.key.proofs.copy_in.Statement.{statement}
 use Rattle.key.proofs.copy_in.Tie as tie
 

@@ -1,6 +1,5 @@
 -- `key::padded` meets its contract: the key is copied into zeroes. Assumes nothing.
-use mathlib.Core.Path.{_∙_}
-use borrow.Author.Needs.{needs}
+use Rattle.base.specs.Kit.{_∙_, needs}
 use Rattle.key.proofs.Part.{paste-padded}
 use Rattle.key.proofs.padded.Statement.{statement}
 use Rattle.key.proofs.padded.Tie as tie

@@ -1,8 +1,5 @@
 -- `key::part_of` meets its contract: the part that the code cuts out has at + n - at bytes. Assumes nothing.
-use mathlib.Core.Path.{_≡_}
-use Prim.Native.Nat.{_+_, _-_}
-use native.Mathlib.Omega.{arith}
-use borrow.Author.Needs.{needs}
+use Rattle.base.specs.Kit.{_≡_, _+_, _-_, arith, needs}
 use Rattle.key.specs.Part.{part}
 use Rattle.key.proofs.part_of.Statement.{statement}
 use Rattle.key.proofs.part_of.Tie as tie
@@ -14,11 +11,4 @@ returns c =
     rw e
 
 pub part-of-spec : {M : Type 1} → statement M
-part-of-spec =
-    tie.close
-    (tie.spec
-    (λ c. search needs)
-    (λ c. search needs)
-    (λ c. search needs)
-    (λ c. search needs)
-    returns)
+part-of-spec = tie.close (tie.spec (search needs) (search needs) (search needs) (search needs) returns)

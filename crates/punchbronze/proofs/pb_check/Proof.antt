@@ -1,10 +1,8 @@
 -- `pb_check` meets its contract: the answer decides, and then the length of the lent slice. Assumes nothing.
-use mathlib.Core.Path.{sym, _∙_}
-use borrow.Author.Tests.{eq-eqb, ne-eqb}
+use Rattle.base.specs.Kit.{sym, _∙_, eq-eqb, ne-eqb, needs}
 use Rattle.base.specs.Pick.{pick}
 use Rattle.verify.specs.Check.{numberOf}
 use Rattle.punchbronze.specs.Interface.{countsAfter}
-use borrow.Author.Needs.{needs}
 use Rattle.punchbronze.proofs.pb_check.Statement.{statement}
 use Rattle.punchbronze.proofs.pb_check.Tie as tie
 

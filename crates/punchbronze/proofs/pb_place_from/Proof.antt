@@ -1,6 +1,6 @@
 -- `pb_place_from` meets its contract: the placing is put into the record. Assumes nothing.
 
-use borrow.Author.Needs.{needs}
+use Rattle.base.specs.Kit.{needs}
 use Rattle.punchbronze.proofs.pb_place_from.Statement.{statement}
 use Rattle.punchbronze.proofs.pb_place_from.Tie as tie
 

@@ -1,10 +1,8 @@
 -- `pb_tally` meets its contract: the answer decides, and then the length of the lent slice. Assumes nothing.
-use mathlib.Core.Path.{sym, _∙_}
-use borrow.Author.Tests.{eq-eqb, ne-eqb}
+use Rattle.base.specs.Kit.{sym, _∙_, eq-eqb, ne-eqb, needs}
 use Rattle.base.specs.Pick.{pick}
 use Rattle.survey.specs.Tally.{numberOf}
 use Rattle.punchbronze.specs.Interface.{countAfter}
-use borrow.Author.Needs.{needs}
 use Rattle.punchbronze.proofs.pb_tally.Statement.{statement}
 use Rattle.punchbronze.proofs.pb_tally.Tie as tie
 

@@ -1,16 +1,21 @@
 -- `put_placed` meets its contract: the test of the lengths decides for all four. Assumes nothing.
-use mathlib.Core.Path.{refl, sym, _∙_}
-use borrow.Author.Tests.{not-false}
+use Rattle.base.specs.Kit.{refl, sym, _∙_, not-false, needs}
 use Rattle.base.proofs.Choice.{not-pick-on, not-pick-off}
 use Rattle.punchbronze.specs.Interface.{placedNumber, placedNumbers, placedBuf, placedBound}
-use Rattle.punchbronze.proofs.Told.{sized-told}
-use borrow.Author.Needs.{needs}
+use Rattle.walk_record.proofs.Told.{sized-told}
 use Rattle.punchbronze.proofs.put_placed.Statement.{statement}
 use Rattle.punchbronze.proofs.put_placed.Tie as tie
 
 returns : tie.Need-returns
 unfolding placedNumber placedNumbers placedBuf placedBound
-returns c = (not-pick-off _ _ (c .before .is-sized .ensures) _ _ _ (c .if1 .taken) refl, not-pick-off _ _ (c .before .is-sized .ensures) _ _ _ (c .if1 .taken) refl, not-pick-off _ _ (c .before .is-sized .ensures) _ _ _ (c .if1 .taken) refl, not-pick-off _ _ (c .before .is-sized .ensures) _ _ _ (c .if1 .taken) refl)
+returns c =
+    let test = c .before .is-sized .ensures in
+    record {
+      number = not-pick-off _ _ test _ _ _ (c .if1 .taken) refl;
+      numbers-left = not-pick-off _ _ test _ _ _ (c .if1 .taken) refl;
+      buf-left = not-pick-off _ _ test _ _ _ (c .if1 .taken) refl;
+      bound-left = not-pick-off _ _ test _ _ _ (c .if1 .taken) refl;
+    }
 
 put-walk-requires : tie.Need-put-walk-requires
 put-walk-requires c κs =
@@ -19,12 +24,16 @@ put-walk-requires c κs =
 
 returns-2 : tie.Need-returns-2
 unfolding placedNumber placedNumbers placedBuf placedBound
-returns-2 c = (
-  not-pick-on _ _ (c .before .before .before .before .before .before .before .before .before .before .before .is-sized .ensures) _ _ _ (c .before .before .before .before .before .before .before .before .before .before .if1 .left) refl,
-  not-pick-on _ _ (c .before .before .before .before .before .before .before .before .before .before .before .is-sized .ensures) _ _ _ (c .before .before .before .before .before .before .before .before .before .before .if1 .left) (c .before .before .before .before .before .before .put-walk .ensures .0),
-  not-pick-on _ _ (c .before .before .before .before .before .before .before .before .before .before .before .is-sized .ensures) _ _ _ (c .before .before .before .before .before .before .before .before .before .before .if1 .left) (c .before .before .before .before .before .before .put-walk .ensures .1),
-  not-pick-on _ _ (c .before .before .before .before .before .before .before .before .before .before .before .is-sized .ensures) _ _ _ (c .before .before .before .before .before .before .before .before .before .before .if1 .left) (c .before .before .before .before .before .before .put-walk .ensures .2),
-)
+returns-2 c =
+    let put = c .before .before .before .before .before .before in
+    let sized = put .before .before .before .before in
+    let test = sized .before .is-sized .ensures in
+    record {
+      number = not-pick-on _ _ test _ _ _ (sized .if1 .left) refl;
+      numbers-left = not-pick-on _ _ test _ _ _ (sized .if1 .left) (put .put-walk .ensures .0);
+      buf-left = not-pick-on _ _ test _ _ _ (sized .if1 .left) (put .put-walk .ensures .1);
+      bound-left = not-pick-on _ _ test _ _ _ (sized .if1 .left) (put .put-walk .ensures .2);
+    }
 
 pub put-placed-spec : {M : Type 1} → statement M
 put-placed-spec =

@@ -1,7 +1,6 @@
 -- The loop over the alterations ends: the measure is how many are left. Nothing has to hold from turn to turn.
-use Prim.Native.Nat.{_-_, _/_}
-use lib.ListN.{length}
-use borrow.Author.Needs.{needs}
+use Rattle.base.specs.Kit.{_-_, _/_, length, needs}
+use Rattle.base.proofs.Needs.{five, six}
 use Rattle.records.proofs.alter.Statement.{statement}
 use Rattle.records.proofs.alter.Tie as tie
 
@@ -12,19 +11,4 @@ abbrev μ-loop : tie.MeasureT-loop
 μ-loop numbers₀ buf₀ changes i₀ numbers buf i = length changes / 10 - i
 
 pub alter-spec : {M : Type 1} → statement M
-alter-spec =
-    tie.close
-    (tie.spec
-    Inv-loop
-    μ-loop
-    (λ c. search needs)
-    (λ c. search needs)
-    (λ c κs. search needs)
-    (λ c. search needs)
-    (λ c κs. search needs)
-    (λ c. search needs)
-    (λ c κs. search needs)
-    (λ c. search needs)
-    (λ c. search needs)
-    (λ c. search needs)
-    (λ c. search needs))
+alter-spec = tie.close (five (six (tie.spec Inv-loop μ-loop) (search needs)) (search needs))

@@ -1,5 +1,6 @@
 -- The loop over the steps ends: the measure is how many are left. Nothing has to hold from turn to turn.
-use borrow.Author.Needs.{needs}
+use Rattle.base.specs.Kit.{needs}
+use Rattle.base.proofs.Needs.{seven}
 use Rattle.records.proofs.steps.Statement.{statement}
 use Rattle.records.proofs.steps.Tie as tie
 
@@ -10,15 +11,4 @@ abbrev μ-loop : tie.MeasureT-loop
 μ-loop name numbers₀ buf₀ bound image left₀ numbers buf left = left
 
 pub steps-spec : {M : Type 1} → statement M
-steps-spec =
-    tie.close
-    (tie.spec
-    Inv-loop
-    μ-loop
-    (λ c. search needs)
-    (λ c κs. search needs)
-    (λ c. search needs)
-    (λ c. search needs)
-    (λ c. search needs)
-    (λ c. search needs)
-    (λ c. search needs))
+steps-spec = tie.close (seven (tie.spec Inv-loop μ-loop) (search needs))

@@ -1,8 +1,5 @@
 -- A buffer with no more bytes than asked for is its own first n; any other is cut.
-use mathlib.Core.Path.{sym}
-use native.Mathlib.Omega.{arith}
-use borrow.Author.Needs.{needs}
-use lib.Seq.{take-all}
+use Rattle.base.specs.Kit.{sym, arith, needs, take-all}
 use Rattle.key.specs.Part.{part}
 use Rattle.requests.proofs.first.Statement.{statement}
 use Rattle.requests.proofs.first.Tie as tie

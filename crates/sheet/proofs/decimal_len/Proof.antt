@@ -1,10 +1,6 @@
 -- `sheet::decimal_len` meets its contract. The loop's invariant: the digits counted and those of what is left are one more than
 -- x has. The measure is what is left. Assumes nothing.
-use mathlib.Core.Path.{_≡_}
-use Prim.Native.Nat.{_+_, _≤_}
-use native.Mathlib.Omega.{arith}
-use lib.ListN.{length}
-use borrow.Author.Needs.{needs}
+use Rattle.base.specs.Kit.{_≡_, _+_, _≤_, arith, length, needs}
 use Rattle.sheet.specs.Sheet.{decimal}
 use Rattle.sheet.proofs.Decimal.{decimal-one-length, decimal-more-length, decimal-length}
 use Rattle.sheet.proofs.decimal_len.Statement.{statement}
@@ -16,23 +12,14 @@ Inv-loop x n₀ rest₀ n rest = (rest ≤ x) × (n + length (decimal rest) ≡ 
 abbrev μ-loop : tie.MeasureT-loop
 μ-loop x n₀ rest₀ n rest = rest
 
-add-n : tie.Need-add-n Inv-loop μ-loop
-add-n c = omega (arith, decimal-length (c .before .before .args .x))
-
-loop-again : tie.Need-loop-again Inv-loop μ-loop
-loop-again c = omega (arith, decimal-more-length (c .before .loop .rest) (c .loop-test .taken) (omega arith))
-
-returns : tie.Need-returns Inv-loop μ-loop
-returns c = omega (arith, decimal-one-length (c .before .loop .rest) (c .loop-test .left))
-
 pub decimal-len-spec : {M : Type 1} → statement M
 decimal-len-spec =
     tie.close
     (tie.spec
     Inv-loop
     μ-loop
-    (λ c. search needs)
-    add-n
-    (λ c. search needs)
-    loop-again
-    returns)
+    (search needs)
+    (λ c. omega (arith, decimal-length (c .before .before .args .x)))
+    (search needs)
+    (λ c. omega (arith, decimal-more-length (c .before .loop .rest) (c .loop-test .taken) (omega arith)))
+    (λ c. omega (arith, decimal-one-length (c .before .loop .rest) (c .loop-test .left))))

@@ -1,5 +1,5 @@
 -- `sheet::hex_digit` meets its contract: each way is a branch of the definition. Assumes nothing.
-use borrow.Author.Needs.{needs}
+use Rattle.base.specs.Kit.{needs}
 use Rattle.base.specs.Pick.{pick}
 use Rattle.base.proofs.Tests.{tests}
 use Rattle.sheet.specs.Sheet.{hexDigit}
@@ -8,5 +8,4 @@ use Rattle.sheet.proofs.hex_digit.Tie as tie
 
 pub hex-digit-spec : {M : Type 1} → statement M
 unfolding hexDigit pick
-hex-digit-spec =
-    tie.close (tie.spec (λ c. search needs) (λ c. search tests) (λ c. search needs) (λ c. search tests))
+hex-digit-spec = tie.close (tie.spec (search needs) (λ c. search tests) (search needs) (λ c. search tests))

@@ -1,13 +1,8 @@
 -- `sheet::pair_line` meets its contract: the key in hex and a space, then the value and a newline. Assumes nothing.
-use mathlib.Core.Path.{_≡_, _∙_}
-use mathlib.Core.List.{List, [], _∷_, _++_}
-use Prim.Native.Nat.{ℕ, _+_}
-use native.Mathlib.Omega.{arith}
-use lib.ListN.{length, length-append, length-set}
-use borrow.Author.Needs.{needs}
+use Rattle.base.specs.Kit.{_≡_, _∙_, List, [], _∷_, _++_, ℕ, _+_, arith, length, length-append, length-set, needs}
 use Rattle.sheet.specs.Sheet.{hexKey, pairLine}
 use Rattle.sheet.proofs.Decimal.{decimal-length}
-use Rattle.sheet.proofs.Lines.{one-behind, too-long, in-two}
+use Rattle.sheet.proofs.Paste.{one-behind, too-long, in-two}
 use Rattle.sheet.proofs.pair_line.Statement.{statement}
 use Rattle.sheet.proofs.pair_line.Tie as tie
 
@@ -24,20 +19,11 @@ returns c =
     let args = c .before .before .before .before .args in
     too-long (args .out .now) (head (args .key .now)) (args .value) (omega (arith, head-length (args .key .now)))
 
-add-if2 : tie.Need-add-if2
-add-if2 c = omega (arith, decimal-length (c .before .before .before .before .before .args .value))
-
-add-if2-2 : tie.Need-add-if2-2
-add-if2-2 c = omega (arith, decimal-length (c .before .before .before .before .before .args .value))
-
 returns-2 : tie.Need-returns-2
 unfolding pairLine
 returns-2 c =
     let args = c .before .before .before .before .before .before .args in
     too-long (args .out .now) (head (args .key .now)) (args .value) (omega (arith, head-length (args .key .now)))
-
-put-decimal-end-requires : tie.Need-put-decimal-end-requires
-put-decimal-end-requires c κs = simp length-set (omega arith)
 
 same-length : tie.Need-same-length
 same-length c =
@@ -59,15 +45,15 @@ pub pair-line-spec : {M : Type 1} → statement M
 pair-line-spec =
     tie.close
     (tie.spec
-    (λ c κs. search needs)
+    (search needs)
     returns
-    (λ c κs. search needs)
-    add-if2
-    add-if2-2
+    (search needs)
+    (λ c. omega (arith, decimal-length (c .before .before .before .before .before .args .value)))
+    (λ c. omega (arith, decimal-length (c .before .before .before .before .before .args .value)))
     returns-2
-    (λ c κs. search needs)
-    (λ c. search needs)
-    (λ c. search needs)
-    put-decimal-end-requires
+    (search needs)
+    (search needs)
+    (search needs)
+    (λ c κs. simp length-set (omega arith))
     same-length
     returns-3)

@@ -1,11 +1,7 @@
 -- `sheet::put_decimal` meets its contract. The loop's invariant: the digits of what is left, written at `at`, make the whole;
 -- i is the place of the last of them. The measure is what is left. Assumes nothing.
-use mathlib.Core.Path.{_≡_, refl, _∙_}
-use Prim.Native.Nat.{_+_, _/_, _≤_, _<_}
-use native.Mathlib.Omega.{arith}
-use lib.ListN.{length}
-use lib.Seq.{paste}
-use borrow.Author.Needs.{needs}
+use Rattle.base.specs.Kit.{_≡_, refl, _∙_, _+_, _/_, _≤_, _<_, arith, length, paste, needs}
+use Rattle.base.proofs.Needs.{three}
 use Rattle.sheet.specs.Sheet.{decimal}
 use Rattle.sheet.proofs.Decimal.{decimal-length, decimal-more-length, digit-more, digit-one}
 use Rattle.sheet.proofs.put_decimal.Statement.{statement}
@@ -63,16 +59,7 @@ returns c =
 pub put-decimal-spec : {M : Type 1} → statement M
 put-decimal-spec =
     tie.close
-    (tie.spec
-    Inv-loop
-    μ-loop
-    (λ c κs. search needs)
-    (λ c. search needs)
-    sub-i
-    loop-holds
-    (λ c. search needs)
-    (λ c. search needs)
-    (λ c. search needs)
+    (three (tie.spec Inv-loop μ-loop (search needs) (search needs) sub-i loop-holds) (search needs)
     sub-i-2
     (λ c. search needs)
     loop-again

@@ -1,6 +1,6 @@
 -- `sheet::put_decimal_end` meets its contract: a decimal and one byte more. Assumes nothing.
-use native.Mathlib.Omega.{arith}
-use borrow.Author.Needs.{needs}
+use Rattle.base.specs.Kit.{arith, needs}
+use Rattle.base.proofs.Needs.{three}
 use Rattle.sheet.specs.Sheet.{decimal}
 use Rattle.sheet.proofs.Paste.{paste-snoc}
 use Rattle.sheet.proofs.put_decimal_end.Statement.{statement}
@@ -16,11 +16,4 @@ returns c =
     )
 
 pub put-decimal-end-spec : {M : Type 1} → statement M
-put-decimal-end-spec =
-    tie.close
-    (tie.spec
-    (λ c κs. search needs)
-    (λ c. search needs)
-    (λ c. search needs)
-    (λ c. search needs)
-    returns)
+put-decimal-end-spec = tie.close (three tie.spec (search needs) (λ c. search needs) returns)

@@ -1,11 +1,6 @@
 -- `sheet::put_hex` meets its contract. The loop's invariant: the digits of the bytes from i on, written at 2 * i, make the
 -- whole. The measure is what is left of the key. Assumes nothing.
-use mathlib.Core.Path.{_≡_, _∙_}
-use Prim.Native.Nat.{_*_, _-_, _≤_, _<_}
-use native.Mathlib.Omega.{arith}
-use lib.ListN.{length, getD, drop, length-set}
-use lib.Seq.{paste}
-use borrow.Author.Needs.{needs}
+use Rattle.base.specs.Kit.{_≡_, _∙_, _*_, _-_, _≤_, _<_, arith, length, getD, drop, length-set, paste, needs}
 use Rattle.sheet.specs.Sheet.{hexBytes}
 use Rattle.sheet.proofs.Hex.{hex-more, hex-none}
 use Rattle.sheet.proofs.put_hex.Statement.{statement}
@@ -23,15 +18,6 @@ byte : (c : tie.After-shared-slice-known2 Inv-loop μ-loop)
     → getD (c .before .before .before .before .before .args .key .now) (c .before .before .loop .i) 0 < 256
 byte c = c .shared-slice-known2 .given (c .before .before .loop .i) .fits
 
-hex-digit-requires : tie.Need-hex-digit-requires Inv-loop μ-loop
-hex-digit-requires c κs = omega (arith, byte c)
-
-hex-digit-requires-2 : tie.Need-hex-digit-requires-2 Inv-loop μ-loop
-hex-digit-requires-2 c κs = omega (arith, byte (c .before))
-
-slice-write-out-2 : tie.Need-slice-write-out-2 Inv-loop μ-loop
-slice-write-out-2 c = simp length-set (omega arith)
-
 loop-again : tie.Need-loop-again Inv-loop μ-loop
 loop-again c =
     let at-loop = c .before .before .before .before in
@@ -42,26 +28,23 @@ loop-again c =
           ∙ at-loop .loop .inv .2,
     )
 
-returns : tie.Need-returns Inv-loop μ-loop
-returns c = hex-none _ _ _ (c .loop-test .left) ∙ c .before .loop .inv .2
-
 pub put-hex-spec : {M : Type 1} → statement M
 put-hex-spec =
     tie.close
     (tie.spec
     Inv-loop
     μ-loop
-    (λ c. search needs)
-    (λ c. search needs)
-    hex-digit-requires
-    (λ c. search needs)
-    (λ c. search needs)
-    hex-digit-requires-2
-    (λ c. search needs)
-    (λ c. search needs)
-    slice-write-out-2
-    (λ c. search needs)
-    (λ c. search needs)
+    (search needs)
+    (search needs)
+    (λ c κs. omega (arith, byte c))
+    (search needs)
+    (search needs)
+    (λ c κs. omega (arith, byte (c .before)))
+    (search needs)
+    (search needs)
+    (λ c. simp length-set (omega arith))
+    (search needs)
+    (search needs)
     loop-again
-    (λ c. search needs)
-    returns)
+    (search needs)
+    (λ c. hex-none _ _ _ (c .loop-test .left) ∙ c .before .loop .inv .2))

@@ -1,8 +1,5 @@
 -- `sheet::put_hex_key` meets its contract: the empty key is one store, any other its bytes in hex. Assumes nothing.
-use native.Mathlib.Omega.{arith}
-use mathlib.Core.Path.{ap}
-use lib.ListN.{length}
-use borrow.Author.Needs.{needs}
+use Rattle.base.specs.Kit.{arith, ap, length, needs}
 use Rattle.sheet.proofs.Paste.{paste-one}
 use Rattle.sheet.proofs.Hex.{hexBytes-length, hexKey-none, hexKey-some}
 use Rattle.sheet.proofs.put_hex_key.Statement.{statement}
@@ -23,5 +20,4 @@ returns-2 : tie.Need-returns-2
 returns-2 c = rw (hexKey-some _ (c .before .before .before .before .if1 .left)) (c .before .before .put-hex .ensures)
 
 pub put-hex-key-spec : {M : Type 1} → statement M
-put-hex-key-spec =
-    tie.close (tie.spec slice-write-out (λ c. search needs) returns put-hex-requires (λ c. search needs) returns-2)
+put-hex-key-spec = tie.close (tie.spec slice-write-out (search needs) returns put-hex-requires (search needs) returns-2)

@@ -1,9 +1,8 @@
 -- `sheet::word_line` meets its contract: the text, then the number and a newline. Assumes nothing.
-use mathlib.Core.Path.{_∙_}
-use native.Mathlib.Omega.{arith}
-use borrow.Author.Needs.{needs}
+use Rattle.base.specs.Kit.{_∙_, arith, needs}
+use Rattle.base.proofs.Needs.{three}
 use Rattle.sheet.proofs.Decimal.{decimal-length}
-use Rattle.sheet.proofs.Lines.{too-long, in-two}
+use Rattle.sheet.proofs.Paste.{too-long, in-two}
 use Rattle.sheet.proofs.word_line.Statement.{statement}
 use Rattle.sheet.proofs.word_line.Tie as tie
 
@@ -27,14 +26,4 @@ returns-2 c =
     (written .ensures .1 ∙ rw (copied .copy-in .ensures))
 
 pub word-line-spec : {M : Type 1} → statement M
-word-line-spec =
-    tie.close
-    (tie.spec
-    (λ c κs. search needs)
-    add-if1
-    add-if1-2
-    returns
-    (λ c κs. search needs)
-    (λ c κs. search needs)
-    (λ c. search needs)
-    returns-2)
+word-line-spec = tie.close (three (tie.spec (search needs) add-if1 add-if1-2 returns) (search needs) returns-2)

@@ -1,9 +1,6 @@
 -- The search in an internode returns the child that its definition names. The invariant: what is left to search, from
 -- separator i on, names the same child as the whole.
-use mathlib.Core.Path.{_≡_}
-use Prim.Native.Nat.{_≤_, _-_}
-use native.Mathlib.Nat.{sub-zero}
-use borrow.Author.Needs.{needs}
+use Rattle.base.specs.Kit.{_≡_, _≤_, _-_, sub-zero, needs}
 use Rattle.node.specs.Ksearch.{upperBound}
 use Rattle.node.proofs.KsearchLaws.{above, equal, below, none}
 use Rattle.node.proofs.ksearch.upper_bound_internode.Statement.{statement}

@@ -1,10 +1,8 @@
 -- The keylenx is read by a reader made of the image and the place.
-use mir.Syntax.{w8}
-use Rattle.node.proofs.Result.{number}
+use Rattle.node.proofs.Result.{byte}
 use Rattle.node.specs.Layout.{keylenxAt}
-use Rattle.node.proofs.Slotted.{makes}
-use Rattle.node.proofs.leaf.LeafReader.keylenx.Symbol as callee
-use Rattle.node.proofs.leaf.LeafReader.keylenx.Met as callee-thm
+use Rattle.node.proofs.Readers.{makes-slot}
+use Rattle.node.proofs.leaf.LeafReader.keylenx.Met as callee
 use Rattle.node.proofs.leaf.keylenx.Key as self
 use Rattle.node.proofs.leaf.keylenx.Statement as stated
 use Rattle.node.proofs.leaf.keylenx.Code as code
@@ -12,5 +10,5 @@ use Rattle.node.proofs.leaf.keylenx.Code as code
 pub keylenx-spec : {M : Type 1} → stated.statement M
 unfolding code.routine
 keylenx-spec {M} 𝓤 H 𝓜 𝓖 𝓡 =
-    makes (number w8) keylenxAt callee.name self.name code.env callee.routine code.calls-node·leaf·LeafReader·keylenx
-    M 𝓤 H 𝓜 𝓖 𝓡 (code.unfolded 𝓤 H 𝓜 𝓡) (callee-thm.met 𝓤 H 𝓜 𝓖 𝓡)
+    makes-slot byte keylenxAt _ self.name _ _ code.calls-node·leaf·LeafReader·keylenx
+    M 𝓤 H 𝓜 𝓖 𝓡 (code.unfolded 𝓤 H 𝓜 𝓡) (callee.met 𝓤 H 𝓜 𝓖 𝓡)

@@ -1,7 +1,5 @@
 -- The four bits are tested in the order of the definition, so each test on the way settles one choice of it.
-use mathlib.Core.Path.{_≡_}
-use mathlib.Core.Bool.{Bool, true, false, not}
-use borrow.Author.Needs.{needs}
+use Rattle.base.specs.Kit.{_≡_, Bool, true, false, not, needs}
 use Rattle.base.specs.Pick.{pick}
 use Rattle.base.proofs.Choice.{choices}
 use Rattle.node.specs.Version.{atRest}

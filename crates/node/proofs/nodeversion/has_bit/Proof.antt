@@ -1,5 +1,5 @@
 -- The bit that is read is the bit by its definition.
-use borrow.Author.Needs.{needs}
+use Rattle.base.specs.Kit.{needs}
 use Rattle.node.specs.Version.{bit}
 use Rattle.node.proofs.nodeversion.has_bit.Statement.{statement}
 use Rattle.node.proofs.nodeversion.has_bit.Tie as tie

@@ -1,5 +1,5 @@
 -- The field that is read is the slot by its definition.
-use borrow.Author.Needs.{needs}
+use Rattle.base.specs.Kit.{needs}
 use Rattle.node.specs.Permuter.{slotAt}
 use Rattle.node.proofs.permuter.get.Statement.{statement}
 use Rattle.node.proofs.permuter.get.Tie as tie

@@ -1,7 +1,6 @@
 -- The loop, as far as the next key, is the machine's run.
-use mathlib.Core.Path.{ap, _∙_}
-use borrow.Author.Needs.{needs}
-use Rattle.scan.specs.declared.forward_ctx.Advanced.{Advanced}
+use Rattle.base.specs.Kit.{ap, _∙_, needs}
+use Rattle.scan.specs.Types.{Advanced}
 use Rattle.scan.proofs.RunLaws.{steps-so}
 use Rattle.scan.proofs.forward_ctx.advance_no_alloc.Statement.{statement}
 use Rattle.scan.proofs.forward_ctx.advance_no_alloc.Tie as tie

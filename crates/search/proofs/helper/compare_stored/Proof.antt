@@ -1,10 +1,8 @@
 -- The tests stand in the order of the definition, and each order has its arm.
-use mathlib.Core.Path.{sym, _∙_}
-use borrow.Author.Needs.{needs}
-use borrow.Author.Tests.{not-false}
-use Rattle.base.proofs.Choice.{choices}
+use Rattle.base.specs.Kit.{sym, _∙_, needs, not-false}
+use Rattle.base.proofs.Choice.{choices, by-number}
 use Rattle.search.specs.Helper.{storedIs, storedOrder}
-use Rattle.search.proofs.Answers.{differs, agrees, stored-as}
+use Rattle.search.proofs.Answers.{stored-as}
 use Rattle.search.proofs.helper.compare_stored.Statement.{statement}
 use Rattle.search.proofs.helper.compare_stored.Tie as tie
 
@@ -18,14 +16,14 @@ compare-stored-spec =
     tie.close
     (tie.spec
     (λ c κs. search needs)
-    (λ c. search differs)
+    (λ c. search by-number)
     (λ c κs. search needs)
-    (λ c. search (agrees, choices))
+    (λ c. search (choices, by-number))
     stored-suffix-requires
     (λ c κs. search needs)
     (λ c. search needs)
     (λ c. search needs)
     (λ c. search needs)
-    (λ c. search (agrees, choices, stored-as))
-    (λ c. search (agrees, choices, stored-as))
-    (λ c. search (agrees, choices, stored-as)))
+    (λ c. search (choices, by-number, stored-as))
+    (λ c. search (choices, by-number, stored-as))
+    (λ c. search (choices, by-number, stored-as)))

@@ -1,5 +1,5 @@
 -- The range that is asked about is the slot's suffix.
-use borrow.Author.Needs.{needs}
+use Rattle.base.specs.Kit.{needs}
 use Rattle.search.specs.Helper.{suffixReadable}
 use Rattle.search.proofs.helper.is_suffix_readable.Statement.{statement}
 use Rattle.search.proofs.helper.is_suffix_readable.Tie as tie

@@ -1,9 +1,5 @@
 -- The search comes to the position that its definition names. The invariant: from position i on it comes to the same as the whole.
-use mathlib.Core.Path.{_≡_}
-use Prim.Native.Nat.{_≤_, _-_}
-use native.Mathlib.Nat.{sub-zero}
-use native.Mathlib.Omega.{arith}
-use borrow.Author.Needs.{needs}
+use Rattle.base.specs.Kit.{_≡_, _≤_, _-_, sub-zero, arith, needs}
 use Rattle.search.specs.Helper.{lowerFrom, lowerWithPosition}
 use Rattle.search.proofs.Answers.{by-less, by-equal, by-greater}
 use Rattle.search.proofs.HelperLaws.{lower-fault, lower-turn, lower-stop}

@@ -1,6 +1,6 @@
 -- The tests say how the cursor's length compares with the slot's, and each order has its answer.
-use borrow.Author.Needs.{needs}
-use Rattle.key.proofs.Turns.{order-less, order-equal, order-greater}
+use Rattle.base.specs.Kit.{needs}
+use Rattle.key.proofs.Order.{order-less, order-equal, order-greater}
 use Rattle.search.specs.Helper.{pastInline}
 use Rattle.search.proofs.helper.past_inline.Statement.{statement}
 use Rattle.search.proofs.helper.past_inline.Tie as tie

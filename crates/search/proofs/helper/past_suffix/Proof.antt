@@ -1,5 +1,6 @@
 -- Each order of the suffixes has its arm.
-use borrow.Author.Needs.{needs}
+use Rattle.base.specs.Kit.{needs}
+use Rattle.base.proofs.Needs.{nine}
 use Rattle.search.specs.Helper.{pastSuffix}
 use Rattle.search.proofs.helper.past_suffix.Statement.{statement}
 use Rattle.search.proofs.helper.past_suffix.Tie as tie
@@ -8,16 +9,7 @@ pub past-suffix-spec : {M : Type 1} → statement M
 unfolding pastSuffix
 past-suffix-spec =
     tie.close
-    (tie.spec
-    (λ c κs. search needs)
-    (λ c. search needs)
-    (λ c. search needs)
-    (λ c. search needs)
-    (λ c. search needs)
-    (λ c κs. search needs)
-    (λ c. search needs)
-    (λ c κs. search needs)
-    (λ c. search needs)
+    (nine tie.spec (search needs)
     (λ c. rw (← c .before .before .compare-stored .ensures, c .enum-told .given .1))
     (λ c. rw (← c .before .before .compare-stored .ensures, c .enum-told2 .given .1))
     (λ c. rw (← c .before .before .before .compare-stored .ensures, c .before .enum-told3 .given .1) (c .find-position-after-suffix .ensures))

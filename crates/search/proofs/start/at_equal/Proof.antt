@@ -1,5 +1,5 @@
 -- Each mode has its arm.
-use borrow.Author.Needs.{needs}
+use Rattle.base.specs.Kit.{needs}
 use Rattle.search.specs.Start.{atEqual}
 use Rattle.search.proofs.start.at_equal.Statement.{statement}
 use Rattle.search.proofs.start.at_equal.Tie as tie

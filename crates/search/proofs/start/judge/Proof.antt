@@ -1,5 +1,6 @@
 -- The tests stand in the order of the definition.
-use borrow.Author.Needs.{needs}
+use Rattle.base.specs.Kit.{needs}
+use Rattle.base.proofs.Needs.{four}
 use Rattle.base.proofs.Choice.{choices}
 use Rattle.search.specs.Start.{verdict}
 use Rattle.search.proofs.Answers.{short-as}
@@ -10,12 +11,5 @@ pub judge-spec : {M : Type 1} → statement M
 unfolding verdict
 judge-spec =
     tie.close
-    (tie.spec
-    (λ c κs. search needs)
-    (λ c κs. search needs)
-    (λ c. search choices)
-    (λ c κs. search needs)
-    (λ c κs. search needs)
-    (λ c. search needs)
-    (λ c κs. search needs)
+    (four (tie.spec (search needs) (search needs) (λ c. search choices)) (search needs)
     (λ c. search (choices, short-as)))

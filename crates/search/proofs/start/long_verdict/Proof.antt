@@ -1,6 +1,7 @@
 -- The tests stand in the order of the definition.
-use borrow.Author.Needs.{needs}
-use Rattle.search.proofs.Answers.{by-number}
+use Rattle.base.specs.Kit.{needs}
+use Rattle.base.proofs.Choice.{by-number}
+use Rattle.search.proofs.Answers.{is-under, is-level, is-over}
 use Rattle.search.specs.Start.{longVerdict}
 use Rattle.search.proofs.start.long_verdict.Statement.{statement}
 use Rattle.search.proofs.start.long_verdict.Tie as tie
@@ -11,11 +12,11 @@ long-verdict-spec =
     tie.close
     (tie.spec
     (λ c κs. search needs)
-    (λ c. search by-number)
-    (λ c. search by-number)
+    (λ c. search (by-number, is-under, is-level, is-over))
+    (λ c. search (by-number, is-under, is-level, is-over))
     (λ c κs. search needs)
-    (λ c. search by-number)
-    (λ c. search by-number)
+    (λ c. search (by-number, is-under, is-level, is-over))
+    (λ c. search (by-number, is-under, is-level, is-over))
     (λ c κs. search needs)
-    (λ c. search by-number)
-    (λ c. search by-number))
+    (λ c. search (by-number, is-under, is-level, is-over))
+    (λ c. search (by-number, is-under, is-level, is-over)))

@@ -1,5 +1,5 @@
 -- The tests stand in the order of the definition.
-use borrow.Author.Needs.{needs}
+use Rattle.base.specs.Kit.{needs}
 use Rattle.base.specs.Pick.{pick}
 use Rattle.base.proofs.Tests.{tests}
 use Rattle.key.specs.Order.{order, then}

@@ -1,8 +1,5 @@
 -- The search comes to the place that its definition names. The invariant: from position i on it comes to the same as the whole.
-use mathlib.Core.Path.{_≡_}
-use Prim.Native.Nat.{_≤_, _-_}
-use native.Mathlib.Nat.{sub-zero}
-use borrow.Author.Needs.{needs}
+use Rattle.base.specs.Kit.{_≡_, _≤_, _-_, sub-zero, needs}
 use Rattle.search.specs.Start.{byVerdict, startFrom, startPosition}
 use Rattle.search.proofs.Answers.{verdict-as}
 use Rattle.search.proofs.StartLaws.{start-fault, start-turn, start-stop}
@@ -16,10 +13,6 @@ Inv-loop mode image leaf k buf permutation size i₀ i =
 abbrev μ-loop : tie.MeasureT-loop
 μ-loop mode image leaf k buf permutation size i₀ i = size - i
 
-loop-holds : tie.Need-loop-holds Inv-loop μ-loop
-unfolding startPosition
-loop-holds c = (search needs, rw (sub-zero, c .size .ensures, c .before .permutation .ensures))
-
 pub start-position-spec : {M : Type 1} → statement M
 unfolding startPosition byVerdict
 start-position-spec =
@@ -27,20 +20,20 @@ start-position-spec =
     (tie.spec
     Inv-loop
     μ-loop
-    (λ c κs. search needs)
-    (λ c κs. search needs)
-    loop-holds
-    (λ c κs. search needs)
+    (search needs)
+    (search needs)
+    (λ c. (search needs, rw (sub-zero, c .size .ensures, c .before .permutation .ensures)))
+    (search needs)
     (λ c. search start-fault)
-    (λ c κs. search needs)
-    (λ c. search needs)
-    (λ c. search needs)
-    (λ c. search needs)
+    (search needs)
+    (search needs)
+    (search needs)
+    (search needs)
     (λ c. (search needs, search (start-turn, verdict-as)))
-    (λ c. search needs)
+    (search needs)
     (λ c. search (start-turn, verdict-as))
-    (λ c. search needs)
+    (search needs)
     (λ c. search (start-turn, verdict-as))
-    (λ c. search needs)
+    (search needs)
     (λ c. search (start-turn, verdict-as))
     (λ c. search start-stop))

@@ -1,7 +1,6 @@
 -- The tests stand in the order of the definition, and each order has its arm.
-use native.Mathlib.Omega.{arith}
+use Rattle.base.specs.Kit.{arith, needs}
 use Rattle.base.proofs.Choice.{choices, found-so}
-use borrow.Author.Needs.{needs}
 use Rattle.search.specs.Helper.{byOrder}
 use Rattle.search.specs.Start.{suffixVerdict}
 use Rattle.search.proofs.Answers.{suffix-in, key-over, key-fits, order-as}

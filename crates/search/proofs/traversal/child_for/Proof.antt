@@ -1,6 +1,5 @@
 -- The child that is read is the one that the search in the internode names, of which there are at most 16.
-use native.Mathlib.Omega.{arith}
-use borrow.Author.Needs.{needs}
+use Rattle.base.specs.Kit.{arith, needs}
 use Rattle.node.proofs.KsearchLaws.{upper-bound-le}
 use Rattle.search.specs.Traversal.{childFor}
 use Rattle.search.proofs.traversal.child_for.Statement.{statement}
@@ -17,11 +16,4 @@ unfolding childFor
 returns c = rw (c .child .ensures, c .before .upper-bound-internode .ensures, c .before .before .nkeys .ensures)
 
 pub child-for-spec : {M : Type 1} → statement M
-child-for-spec =
-    tie.close
-    (tie.spec
-    (λ c κs. search needs)
-    (λ c. search needs)
-    (λ c κs. search needs)
-    child-requires
-    returns)
+child-for-spec = tie.close (tie.spec (search needs) (search needs) (search needs) child-requires returns)

@@ -1,6 +1,5 @@
 -- The tests stand in the order of the definition; the last two are its one test on the sum, asked without adding.
-use native.Mathlib.Omega.{arith}
-use borrow.Author.Needs.{needs}
+use Rattle.base.specs.Kit.{arith, needs}
 use Rattle.search.proofs.TraversalLaws.{too-low, too-high, room}
 use Rattle.search.proofs.traversal.is_readable.Statement.{statement}
 use Rattle.search.proofs.traversal.is_readable.Tie as tie

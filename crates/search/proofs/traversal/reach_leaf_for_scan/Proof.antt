@@ -1,9 +1,7 @@
 -- The descent comes to the leaf that its definition names. The invariant: from the record at hand it comes to the same as
 -- from the root. The measure is the record's offset, since a child lies below its parent.
-use mathlib.Core.Path.{_≡_, sym, _∙_}
-use Prim.Native.Nat.{_≤_}
-use native.Mathlib.Omega.{arith}
-use borrow.Author.Needs.{needs}
+use Rattle.base.specs.Kit.{_≡_, sym, _∙_, _≤_, arith, needs}
+use Rattle.base.proofs.Needs.{three}
 use Rattle.search.specs.Traversal.{reach}
 use Rattle.search.proofs.TraversalLaws.{internode-in, no-record, at-leaf, too-many, not-lower, lower}
 use Rattle.search.proofs.traversal.reach_leaf_for_scan.Statement.{statement}
@@ -14,9 +12,6 @@ Inv-loop image root ikey node₀ node = reach image ikey node ≡ reach image ik
 
 abbrev μ-loop : tie.MeasureT-loop
 μ-loop image root ikey node₀ node = node
-
-nkeys-requires : tie.Need-nkeys-requires Inv-loop μ-loop
-nkeys-requires c κs = omega (arith, internode-in _ _ (sym (c .before .before .record-at .ensures) ∙ c .enum-told3 .given .1))
 
 child-for-requires : tie.Need-child-for-requires Inv-loop μ-loop
 child-for-requires c κs = (
@@ -32,19 +27,14 @@ not-below c =
 pub reach-leaf-for-scan-spec : {M : Type 1} → statement M
 reach-leaf-for-scan-spec =
     tie.close
-    (tie.spec
-    Inv-loop
-    μ-loop
-    (λ c. search needs)
-    (λ c κs. search needs)
-    (λ c. search needs)
+    (three (tie.spec Inv-loop μ-loop) (search needs)
     (λ c. search no-record)
-    (λ c. search needs)
+    (search needs)
     (λ c. search at-leaf)
-    (λ c. search needs)
-    nkeys-requires
+    (search needs)
+    (λ c κs. omega (arith, internode-in _ _ (sym (c .before .before .record-at .ensures) ∙ c .enum-told3 .given .1)))
     (λ c. search too-many)
     child-for-requires
     not-below
-    (λ c. search needs)
+    (search needs)
     (λ c. search lower))

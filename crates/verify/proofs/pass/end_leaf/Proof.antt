@@ -1,7 +1,5 @@
 -- A leaf's end is that of a record, once it is counted and its next is kept; neither is what the end tests.
-use borrow.Author.Needs.{needs}
-use native.Mathlib.Omega.{arith}
-use borrow.Author.Tests.{eq-eqb}
+use Rattle.base.specs.Kit.{needs, arith, eq-eqb}
 use Rattle.base.specs.Pick.{pick}
 use Rattle.base.proofs.Tests.{tests}
 use Rattle.verify.specs.Check.{andThen, demand, passLeaf}
@@ -9,17 +7,13 @@ use Rattle.verify.specs.Cases.{recordEnd, leafEnd}
 use Rattle.verify.proofs.pass.end_leaf.Statement.{statement}
 use Rattle.verify.proofs.pass.end_leaf.Tie as tie
 
-returns-2 : tie.Need-returns-2
-unfolding andThen pick recordEnd leafEnd demand passLeaf
-returns-2 c = rw (c .end-record .ensures, eq-eqb _ _ (c .before .before .before .before .if1 .left), c .before .before .next .ensures)
-
 pub end-leaf-spec : {M : Type 1} → statement M
-unfolding andThen pick
+unfolding andThen pick recordEnd leafEnd demand passLeaf
 end-leaf-spec =
     tie.close
     (tie.spec
     (λ c. search tests)
     (λ c. omega (arith, c .before .before .before .before .pre .1 (c .before .if1 .left)))
-    (λ c κs. search needs)
+    (search needs)
     (λ c κs. (search needs, λ z. c .before .before .before .before .before .before .pre .1 (c .before .before .before .if1 .left) .within))
-    returns-2)
+    (λ c. rw (c .end-record .ensures, eq-eqb _ _ (c .before .before .before .before .if1 .left), c .before .before .next .ensures)))

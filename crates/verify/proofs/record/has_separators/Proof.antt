@@ -1,10 +1,7 @@
 -- The invariant: what is left, from separator i on and above the one before it, comes to the same as the whole.
-use borrow.Author.Needs.{needs}
-use mathlib.Core.Path.{_≡_}
-use Prim.Native.Nat.{_≤_, _+_, _-_}
-use native.Mathlib.Nat.{sub-zero}
+use Rattle.base.specs.Kit.{needs, _≡_, _≤_, _+_, _-_, sub-zero}
 use Rattle.verify.specs.Check.{separatorsFrom}
-use Rattle.verify.proofs.Turns.{not-above, not-below, between, all-between}
+use Rattle.verify.proofs.RecordTests.{not-above, not-below, between, all-between}
 use Rattle.verify.proofs.record.has_separators.Statement.{statement}
 use Rattle.verify.proofs.record.has_separators.Tie as tie
 
@@ -14,9 +11,6 @@ Inv-loop image at lo top n low₀ i₀ low i = (i ≤ n) × (separatorsFrom imag
 abbrev μ-loop : tie.MeasureT-loop
 μ-loop image at lo top n low₀ i₀ low i = n - i
 
-loop-again : tie.Need-loop-again Inv-loop μ-loop
-loop-again c = (search needs, search between)
-
 pub has-separators-spec : {M : Type 1} → statement M
 has-separators-spec =
     tie.close
@@ -24,10 +18,10 @@ has-separators-spec =
     Inv-loop
     μ-loop
     (λ c. (search needs, simp sub-zero))
-    (λ c κs. search needs)
+    (search needs)
     (λ c. search not-above)
     (λ c. search not-below)
-    (λ c. search needs)
-    (λ c. search needs)
-    loop-again
+    (search needs)
+    (search needs)
+    (λ c. (search needs, search between))
     (λ c. search all-between))

@@ -6,8 +6,4 @@ use Rattle.verify.proofs.record.is_expected.Tie as tie
 
 pub is-expected-spec : {M : Type 1} → statement M
 unfolding expected
-is-expected-spec =
-    tie.close
-    (tie.spec
-    (λ c. search (tests, c .before .if1 .taken))
-    (λ c. search (tests, c .if1 .left)))
+is-expected-spec = tie.close (tie.spec (λ c. search (tests, c .before .if1 .taken)) (λ c. search (tests, c .if1 .left)))

@@ -1,11 +1,8 @@
 -- The tests stand in the order of the definition. Its sums are not made: an offset may be as large as 2 ^ 64 - 1.
-use borrow.Author.Needs.{needs}
-use native.Mathlib.Omega.{arith}
-use lib.ListN.{length}
-use borrow.Author.Tests.{eq-eqb, le-leb}
+use Rattle.base.specs.Kit.{needs, arith, length, eq-eqb, le-leb}
 use Rattle.base.proofs.Tests.{tests}
 use Rattle.verify.specs.Check.{reachable}
-use Rattle.verify.proofs.Ends.{latest}
+use Rattle.verify.proofs.RecordTests.{latest}
 use Rattle.verify.proofs.record.is_reachable.Statement.{statement}
 use Rattle.verify.proofs.record.is_reachable.Tie as tie
 
@@ -17,11 +14,4 @@ returns-3 c =
 
 pub is-reachable-spec : {M : Type 1} → statement M
 unfolding reachable
-is-reachable-spec =
-    tie.close
-    (tie.spec
-    (λ c. search tests)
-    (λ c. search tests)
-    (λ c. search needs)
-    (λ c. search needs)
-    returns-3)
+is-reachable-spec = tie.close (tie.spec (λ c. search tests) (λ c. search tests) (search needs) (search needs) returns-3)

@@ -1,9 +1,8 @@
 -- By cases on the child's number, as the definition.
-use borrow.Author.Needs.{needs}
-use mathlib.Core.Path.{_∙_}
+use Rattle.base.specs.Kit.{needs, _∙_}
 use Rattle.base.proofs.Tests.{tests}
 use Rattle.verify.specs.Check.{lowEnd}
-use Rattle.verify.proofs.Ends.{low-inner}
+use Rattle.verify.proofs.RecordTests.{low-inner}
 use Rattle.verify.proofs.record.low_end.Statement.{statement}
 use Rattle.verify.proofs.record.low_end.Tie as tie
 

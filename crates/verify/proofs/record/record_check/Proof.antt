@@ -1,11 +1,9 @@
 -- The tests stand in the order of the definition; a record that is reachable lies in the image.
-use borrow.Author.Needs.{needs}
-use mathlib.Core.Path.{ap, _∙_}
-use native.Mathlib.Omega.{arith}
+use Rattle.base.specs.Kit.{needs, ap, _∙_, arith}
 use Rattle.base.proofs.Choice.{choices}
 use Rattle.node.specs.Version.{isLeaf}
 use Rattle.verify.specs.Cases.{recordCheck}
-use Rattle.verify.proofs.Ends.{before-trailer}
+use Rattle.verify.proofs.RecordTests.{before-trailer}
 use Rattle.verify.proofs.record.record_check.Statement.{statement}
 use Rattle.verify.proofs.record.record_check.Tie as tie
 

@@ -1,5 +1,5 @@
 -- `CursorPlace::compare` meets its contract: the code's tests are the definition's, in its order. Assumes nothing.
-use borrow.Author.Needs.{needs}
+use Rattle.base.specs.Kit.{needs}
 use Rattle.base.specs.Pick.{pick}
 use Rattle.base.proofs.Tests.{tests}
 use Rattle.key.specs.Order.{order, then}

@@ -1,5 +1,5 @@
 -- `CursorPlace::has_suffix` meets its contract: the code's test is the definition's. Assumes nothing.
-use borrow.Author.Needs.{needs}
+use Rattle.base.specs.Kit.{needs}
 use Rattle.cursor.specs.CursorKey.{hasSuffix}
 use Rattle.cursor.proofs.cursor_key.CursorPlace.has_suffix.Statement.{statement}
 use Rattle.cursor.proofs.cursor_key.CursorPlace.has_suffix.Tie as tie

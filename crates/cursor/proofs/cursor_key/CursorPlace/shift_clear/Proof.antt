@@ -1,5 +1,5 @@
 -- `CursorPlace::shift_clear` meets its contract: the place that it makes is the definition's. Assumes nothing.
-use borrow.Author.Needs.{needs}
+use Rattle.base.specs.Kit.{needs}
 use Rattle.cursor.specs.CursorKey.{shiftClear}
 use Rattle.cursor.proofs.cursor_key.CursorPlace.shift_clear.Statement.{statement}
 use Rattle.cursor.proofs.cursor_key.CursorPlace.shift_clear.Tie as tie

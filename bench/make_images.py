@@ -1,0 +1,80 @@
+#!/usr/bin/env python3
+"""Makes the images that bench/run times, those that are not there yet, and prints their names: bench/make_images.py FOLDER [pages]
+
+Keys are random bytes, the same ones each time. Leaves are full, no slot is dead, and internodes have sixteen children. With `pages` the
+images are those for pages, whose names have 200 bytes.
+"""
+import os
+import random
+import sys
+
+sys.path.insert(0, os.path.join(os.path.dirname(os.path.dirname(os.path.abspath(__file__))), "tools"))
+from layout import build, tree_of
+
+SHORT = 440_000  # 28 bytes of image a key: below the 16 MiB that an image may have
+
+
+def drawn(r, n, low, high):
+    return (r.randbytes(r.randint(low, high)) for _ in range(n))
+
+
+def prefixes(r, n):
+    return list(drawn(r, n, 8, 8))
+
+
+def layers(r):
+    heads = prefixes(r, 100)
+    return (r.choice(heads) + tail for tail in drawn(r, 30_000, 1, 8))
+
+
+def threes(r):
+    return (head + tail for head in prefixes(r, 10_000) for tail in drawn(r, 3, 1, 8))
+
+
+def names(r, n, shared):
+    """Names of 200 bytes in groups of about 100. All begin with `shared` bytes, a group with eight more: a layer for each eight of them
+    stands above the names. With 0 bytes there are no groups, and every name is a suffix in the root."""
+    if not shared:
+        return drawn(r, n, 200, 200)
+    front = r.randbytes(shared)
+    heads = [front + head for head in prefixes(r, n // 100)]
+    return (head + tail for head, tail in zip(r.choices(heads, k=n), drawn(r, n, 192 - shared, 192 - shared)))
+
+
+IMAGES = {
+    "short": lambda r: drawn(r, 30_000, 1, 8),
+    "suffix": lambda r: drawn(r, 30_000, 9, 39),
+    "layers": layers,
+    "threes": threes,
+    # one shape in three sizes
+    "short-0.8MB": lambda r: drawn(r, SHORT // 16, 5, 8),
+    "short-3MB": lambda r: drawn(r, SHORT // 4, 5, 8),
+    "short-12MB": lambda r: drawn(r, SHORT, 5, 8),
+}
+
+# by the layers that a name lies under, and the number of names
+PAGES = {
+    "names-0-1k": lambda r: names(r, 1_000, 0),
+    "names-0-30k": lambda r: names(r, 30_000, 0),
+    "names-11-30k": lambda r: names(r, 30_000, 80),
+    "names-21-1k": lambda r: names(r, 1_000, 160),
+    "names-21-30k": lambda r: names(r, 30_000, 160),
+}
+
+
+def main():
+    if len(sys.argv) < 2 or sys.argv[2:] not in ([], ["pages"]):
+        sys.exit(__doc__)
+    for name, keys in (PAGES if sys.argv[2:] else IMAGES).items():
+        path = os.path.join(sys.argv[1], name + ".img")
+        if not os.path.exists(path):
+            r = random.Random(name)
+            image = build(tree_of({key: r.randrange(1 << 64) for key in keys(r)}))
+            with open(path + ".part", "wb") as f:
+                f.write(image)
+            os.rename(path + ".part", path)
+        print(name)
+
+
+if __name__ == "__main__":
+    main()

@@ -1,0 +1,12 @@
+-- The walk that is counted is the placing's. Assumes nothing.
+use Rattle.base.specs.Kit.{_∙_, needs}
+use Rattle.bench_loops.proofs.timed_count.Statement.{statement}
+use Rattle.bench_loops.proofs.timed_count.Tie as tie
+
+pub timed-count-spec : {M : Type 1} → statement M
+timed-count-spec =
+    tie.close
+    (tie.spec
+    (λ c κs. search needs)
+    (λ c κs. search needs)
+    (λ c. c .count-keys .ensures ∙ (rw (c .before .place-all .ensures))))

@@ -1,0 +1,30 @@
+-- What the timed loops count, over any bytes.
+use Rattle.base.specs.Kit.{not, List, [], ℕ, zero, suc, eqb, length}
+use Rattle.base.specs.Pick.{pick}
+use Rattle.cursor.specs.declared.range_bound.StartMode.the-variants.{Above}
+use Rattle.walk.specs.Placing.{place}
+use Rattle.scan.specs.Machine.{step}
+use Rattle.walk.specs.declared.scan_state.Walk.{Walk}
+use Rattle.walk.specs.declared.scan_state.Answer.{Answer}
+use Rattle.walk.specs.declared.scan_state.Answer.the-variants.{Key, Nothing, Declined}
+
+-- One more than the rest where a key is out; no more where none is.
+unfoldable pub countKey : Answer → ℕ → ℕ
+countKey (Key len value) rest = suc rest
+countKey Nothing rest = 0
+countKey (Declined n) rest = 0
+
+-- How many of the first n steps hand out a key before the first answer that is no key.
+unfoldable pub keysFrom : ℕ → Walk → List ℕ → ℕ
+keysFrom zero w image = 0
+keysFrom (suc n) w image =
+    let s = step w image in
+    let rest = keysFrom n (s .walk) image in
+    countKey (s .answer) rest
+
+-- The same of a walk above the empty cursor, unbounded, and of as many steps as the image has bytes; 0 where the placing is
+-- declined.
+unfoldable pub keysOf : List ℕ → ℕ
+keysOf image =
+    let p = place image Above [] 0 [] in
+    pick (not (eqb (p .code) 0)) 0 (keysFrom (length image) (p .walk) image)

@@ -1,0 +1,95 @@
+// What bench/ times of the walk: loops over whole images, each with an export for C. Nothing else calls them.
+//
+// Interface: `timed_walk` and `timed_count`, which take anything and have no `requires`. The two forms of the step have a loop each: a choice inside
+// one loop would copy every step's answer once more, and be timed with it.
+use cursor::range_bound::StartMode;
+use walk::scan_state::Answer;
+use walk::scan_state::Placed;
+use walk::scan_state::Walk;
+ghost use Rattle.base.specs.Kit.{_≡_, [], length};
+ghost use Rattle.cursor.specs.declared.range_bound.StartMode.the-variants.{Above};
+ghost use Rattle.walk.specs.Placing.{place};
+ghost use Rattle.scan.specs.Loop.{keysLeft};
+ghost use Rattle.bench_loops.specs.Counting.{keysFrom, keysOf};
+
+// A walk above the empty cursor, unbounded.
+fn place_all(image: &[u8]) -> Placed
+    ensures { λ r. ⌜ r ≡ place (now (image .entry)) Above [] 0 [] ⌝ }
+{
+    walk::placing::place(image, StartMode::Above, b"", 0, b"")
+}
+
+// The keys that a walk above the empty cursor, unbounded, hands out before the first answer that is no key: by the step by value
+// where the form is 0, by the lent step otherwise. 0 where the placing is declined.
+#[no_mangle]
+pub extern "C" fn timed_walk(image: &[u8], form: u8) -> u64
+    ensures { λ r. ⌜ r ≡ keysOf (now (image .entry)) ⌝ }
+{
+    let placed = place_all(image);
+    if placed.code != 0 {
+        return 0;
+    }
+    if form == 0 {
+        return by_value(placed.walk, image) as u64;
+    }
+    by_lent(placed.walk, image) as u64
+}
+
+// The keys of the same walk, by the tally's loop: one call for all moves.
+#[no_mangle]
+pub extern "C" fn timed_count(image: &[u8]) -> u64
+    ensures { λ r. ⌜ r ≡ keysLeft (place (now (image .entry)) Above [] 0 [] .walk) (now (image .entry)) ⌝ }
+{
+    let placed = place_all(image);
+    scan::step::count_keys(placed.walk, image) as u64
+}
+
+// The keys that steps of a walk hand out before the first answer that is no key, of as many steps as the image has bytes.
+fn by_value(walk: Walk, image: &[u8]) -> usize
+    ensures { λ r. ⌜ r ≡ keysFrom (length (now (image .entry))) walk (now (image .entry)) ⌝ }
+{
+    let mut at = walk;
+    let mut count = 0;
+    while count < image.len() {
+        let s = scan::step::step(at, image);
+        let answer = s.answer;
+        match answer {
+            Answer::Key { len: _, value: _ } => {
+                at = s.walk;
+                count += 1;
+            }
+            Answer::Nothing => {
+                return count;
+            }
+            Answer::Declined(_) => {
+                return count;
+            }
+        }
+    }
+    count
+}
+
+// The same by the lent step.
+fn by_lent(walk: Walk, image: &[u8]) -> usize
+    ensures { λ r. ⌜ r ≡ keysFrom (length (now (image .entry))) walk (now (image .entry)) ⌝ }
+{
+    let mut at = walk;
+    let mut count = 0;
+    while count < image.len() {
+        let s = lent::step_over(at, image);
+        let answer = s.answer;
+        match answer {
+            Answer::Key { len: _, value: _ } => {
+                at = s.walk;
+                count += 1;
+            }
+            Answer::Nothing => {
+                return count;
+            }
+            Answer::Declined(_) => {
+                return count;
+            }
+        }
+    }
+    count
+}

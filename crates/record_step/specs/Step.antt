@@ -1,0 +1,46 @@
+-- What a step of a walk's record returns, and what it leaves in each slice that is lent to it.
+use Rattle.base.specs.Kit.{List, [], _∷_, _≡_, ℕ, eqb, length}
+use Rattle.base.specs.Pick.{pick}
+use Rattle.walk.specs.Walk.{numberOf}
+use Rattle.scan.specs.Machine.{step}
+use Rattle.walk_record.specs.Record.{numbersOf, readWalk, isRecord}
+use Rattle.record_step.specs.Types.{Answer, Key, Nothing, Declined, Stepped}
+
+-- A STEP. What it answers with: 1 for a key or 0 for none, the key's length, its value, and the moves.
+unfoldable pub answerNumbers : Answer → ℕ → List ℕ
+answerNumbers (Key len value) moves = 1 ∷ len ∷ value ∷ moves ∷ []
+answerNumbers Nothing moves = 0 ∷ 0 ∷ 0 ∷ moves ∷ []
+answerNumbers (Declined n) moves = 0 ∷ 0 ∷ 0 ∷ moves ∷ []
+
+-- The step of a record's walk.
+abbrev pub stepOf : List ℕ → List ℕ → List ℕ → List ℕ → Stepped
+stepOf numbers buf bound image = step (readWalk numbers buf bound) image
+
+-- Its number, 0 where it is not declined; 21 where the record is no walk's, or there is no room for the answer.
+unfoldable pub stepNumber : List ℕ → List ℕ → List ℕ → List ℕ → List ℕ → ℕ
+stepNumber numbers buf bound image out =
+    pick (eqb (length out) 4) (pick (isRecord numbers buf bound) (numberOf (stepOf numbers buf bound image .answer)) 21) 21
+
+-- What a slice is left with: something new where the number is 0; else as it came.
+unfoldable pub left : ℕ → List ℕ → List ℕ → List ℕ
+left number new old = pick (eqb number 0) new old
+
+unfoldable pub stepNumbers : List ℕ → List ℕ → List ℕ → List ℕ → List ℕ → List ℕ
+stepNumbers numbers buf bound image out =
+    left (stepNumber numbers buf bound image out) (numbersOf (stepOf numbers buf bound image .walk)) numbers
+
+unfoldable pub stepBuf : List ℕ → List ℕ → List ℕ → List ℕ → List ℕ → List ℕ
+stepBuf numbers buf bound image out =
+    left (stepNumber numbers buf bound image out) (stepOf numbers buf bound image .walk .cursor .buf) buf
+
+unfoldable pub stepOut : List ℕ → List ℕ → List ℕ → List ℕ → List ℕ → List ℕ
+stepOut numbers buf bound image out =
+    let s = stepOf numbers buf bound image in
+    left (stepNumber numbers buf bound image out) (answerNumbers (s .answer) (s .moves)) out
+
+-- All that a step of a record leaves: its number r, the numbers, the buffer and the answer.
+pub record StepMade (numbers buf bound image out : List ℕ) (r : ℕ) (numbers′ buf′ out′ : List ℕ) : Type 0 where
+  pub number : r ≡ stepNumber numbers buf bound image out
+  pub numbers-left : numbers′ ≡ stepNumbers numbers buf bound image out
+  pub buf-left : buf′ ≡ stepBuf numbers buf bound image out
+  pub out-left : out′ ≡ stepOut numbers buf bound image out

@@ -1,0 +1,60 @@
+// A record's numbers, read and changed where they are, for the step that hands out the next slot's key.
+use walk_record::layout;
+use walk_record::record;
+use cursor::cursor_key::CursorPlace;
+use walk::scan_state::WalkState;
+ghost use Rattle.base.specs.Kit.{_≡_, _≤_, length, getD};
+ghost use Rattle.walk_record.specs.Record.{numbersIn, positionAt};
+ghost use Rattle.record_step.specs.InPlace.{numbersOk, placeOf, keyNumbers};
+
+// Whether a record's numbers are in range, over an image of n bytes (01's 21).
+pub fn is_numbers_ok(numbers: &[u64], n: usize) -> bool
+    requires { ⌜ length (now numbers) ≡ numbersIn ⌝ }
+    ensures { λ r. ⌜ r ≡ numbersOk (now (numbers .entry)) n ⌝ }
+{
+    let depth = numbers[layout::DEPTH];
+    let offset = numbers[layout::OFFSET];
+    if numbers[layout::IMAGE_LEN] != n as u64 {
+        return false;
+    }
+    if 31 < depth {
+        return false;
+    }
+    if offset != 8 * depth {
+        return false;
+    }
+    if 256 - offset < numbers[layout::LEN] {
+        return false;
+    }
+    if 15 < numbers[layout::POSITION] {
+        return false;
+    }
+    if 2 < numbers[layout::KIND] {
+        return false;
+    }
+    numbers[layout::BOUND_LEN] <= 256
+}
+
+// The cursor of a record's walk.
+pub fn place_of(numbers: &[u64]) -> CursorPlace
+    requires { ⌜ length (now numbers) ≡ numbersIn ⌝ }
+    ensures { λ r. ⌜ r ≡ placeOf (now (numbers .entry)) ⌝ }
+{
+    CursorPlace {
+        offset: numbers[layout::OFFSET] as usize,
+        len: numbers[layout::LEN] as usize,
+        ikey: numbers[layout::IKEY],
+    }
+}
+
+// The numbers one position on, with a key and a state.
+pub fn put_key(numbers: &mut [u64], k: CursorPlace, state: WalkState)
+    requires { ⌜ length (now numbers) ≡ numbersIn ⌝ }
+    requires { ⌜ getD (now numbers) positionAt 0 ≤ 15 ⌝ }
+    ensures { λ _. ⌜ now (numbers .exit) ≡ keyNumbers (now (numbers .entry)) k state ⌝ }
+{
+    numbers[layout::POSITION] = numbers[layout::POSITION] + 1;
+    numbers[layout::LEN] = k.len as u64;
+    numbers[layout::IKEY] = k.ikey;
+    numbers[layout::STATE] = record::state_number(state);
+}

@@ -1,2 +1,0 @@
--- The lemma file of this crate.
-pub mod Laws

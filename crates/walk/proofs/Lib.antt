@@ -1,0 +1,3 @@
+-- The lemma files of this crate.
+pub mod PlaceLaws
+pub mod NumberLaws

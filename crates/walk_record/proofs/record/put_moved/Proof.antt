@@ -1,0 +1,19 @@
+-- `record::put_moved` meets its contract: each lent slice gets its part of the record, whole. Assumes nothing.
+use Rattle.base.specs.Kit.{_∙_, needs}
+use Rattle.walk_record.proofs.record.put_moved.Statement.{statement}
+use Rattle.walk_record.proofs.record.put_moved.Tie as tie
+
+returns : tie.Need-returns
+returns c = (c .before .before .before .before .before .before .before .before .before .copy-words .ensures ∙ c .before .before .before .before .before .before .before .before .before .before .before .before .before .numbers-of .ensures, c .before .before .copy-bytes .ensures)
+
+pub put-moved-spec : {M : Type 1} → statement M
+put-moved-spec =
+    tie.close
+    (tie.spec
+    (λ c κs. search needs)
+    (λ c. search needs)
+    (λ c κs. search needs)
+    (λ c κs. search needs)
+    (λ c. search needs)
+    (λ c. search needs)
+    returns)

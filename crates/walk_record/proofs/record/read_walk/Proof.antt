@@ -1,0 +1,28 @@
+-- `record::read_walk` meets its contract: the definition's fields. Assumes nothing.
+use Rattle.base.specs.Kit.{needs}
+use Rattle.walk_record.specs.Record.{readWalk}
+use Rattle.walk_record.specs.Laid.{readCursor, readBound}
+use Rattle.walk_record.proofs.record.read_walk.Statement.{statement}
+use Rattle.walk_record.proofs.record.read_walk.Tie as tie
+
+returns : tie.Need-returns
+unfolding readWalk readCursor readBound
+returns c = simp (c .state-of .ensures, c .before .before .mode-of .ensures, c .before .before .before .before .read-bound .ensures, c .before .before .before .before .before .read-stack .ensures, c .before .before .before .before .before .before .before .read-cursor .ensures)
+
+pub read-walk-spec : {M : Type 1} → statement M
+read-walk-spec =
+    tie.close
+    (tie.spec
+    (λ c. search needs)
+    (λ c. search needs)
+    (λ c. search needs)
+    (λ c. search needs)
+    (λ c κs. search needs)
+    (λ c. search needs)
+    (λ c κs. search needs)
+    (λ c κs. search needs)
+    (λ c. search needs)
+    (λ c κs. search needs)
+    (λ c. search needs)
+    (λ c κs. search needs)
+    returns)

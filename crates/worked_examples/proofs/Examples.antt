@@ -1,0 +1,27 @@
+-- P1 to P12 hold: the machine says of every example of the table what 01 says, by computation. Assumes nothing.
+use Rattle.base.specs.Kit.{map, _≡_, refl}
+use Rattle.base.specs.Pick.{pick}
+use Rattle.key.specs.Order.{order, then, byteOrder}
+use Rattle.key.specs.Ikey.{be, ikeyOf, digits, ikeyBytes}
+use Rattle.key.specs.Part.{part, padded}
+use Rattle.node.specs.Le.{le, u16At, u32At, u64At}
+use Rattle.node.specs.Version.{bit, atRest}
+use Rattle.node.specs.Permuter.{slotAt}
+use Rattle.node.specs.Layout.{liveAt, suffixAt}
+use Rattle.node.specs.Ksearch.{upperBound}
+use Rattle.node.specs.Heading.{lengthOk, headingFault}
+use Rattle.cursor.specs.CursorKey.{fromSlice, shiftClear, unshift, hasSuffix, suffixOf, compareSlot, withIkey, withLength, storeIkey, storeSuffix}
+use Rattle.cursor.specs.RangeBound.{admits, contains, boundOf}
+use Rattle.search.specs.Traversal.{readable, recordAt, byKind, leafThere, childFor, reachFrom, reach}
+use Rattle.search.specs.Helper.{byOrder, lowerFrom, lowerWithPosition, suffixReadable, suffixBytes, storedIs, storedOrder, notShorter, afterInline, notBelow, afterSuffix, behind, pastLayer, pastInline, pastSuffix, atMatch, atFound, lowerWithSuffix}
+use Rattle.search.specs.Start.{shortVerdict, verdict, byVerdict, startFrom, startPosition}
+use Rattle.moves.specs.Moves.{faulted, standing, begin, startIn, findStart, retryIn, findRetry, handleDown, handleUp, advanceLeaf, dupBySuffix, dupOf, kept, onward, isStorable, keyPlace, keyBuf, handOut, emitKey, takeKey, takeLayer, takeSlot, unlessDup, backToRetry, findSlot, findNext, passIn}
+use Rattle.walk.specs.Walk.{zeroWalk, walkOk}
+use Rattle.walk.specs.Placing.{placeFault, startState, freshWalk, place}
+use Rattle.scan.specs.Machine.{pushing, movedBy, before, moveIn, move, after, run, scanOf, finished, advance, step}
+use Rattle.worked_examples.specs.Sample.{leBytes, station, dead, layerSlot, maskFrom, words, column, leafBytes, imageOf, oneLeaf}
+use Rattle.worked_examples.specs.Examples.{onAnswer, hand, asked, answered, machineSays, paperSays, treeA, entrance, treeB, pair, gives, walking, table}
+
+pub examples : map machineSays table ≡ map paperSays table
+unfolding pick order then byteOrder be ikeyOf digits ikeyBytes part padded le u16At u32At u64At bit atRest slotAt liveAt suffixAt upperBound lengthOk headingFault fromSlice shiftClear unshift hasSuffix suffixOf compareSlot withIkey withLength storeIkey storeSuffix admits contains boundOf readable recordAt byKind leafThere childFor reachFrom reach byOrder lowerFrom lowerWithPosition suffixReadable suffixBytes storedIs storedOrder notShorter afterInline notBelow afterSuffix behind pastLayer pastInline pastSuffix atMatch atFound lowerWithSuffix shortVerdict verdict byVerdict startFrom startPosition faulted standing begin startIn findStart retryIn findRetry handleDown handleUp advanceLeaf dupBySuffix dupOf kept onward isStorable keyPlace keyBuf handOut emitKey takeKey takeLayer takeSlot unlessDup backToRetry findSlot findNext zeroWalk placeFault startState freshWalk place pushing movedBy before passIn moveIn move after run walkOk scanOf finished advance step leBytes station dead layerSlot maskFrom words column leafBytes imageOf oneLeaf onAnswer hand asked answered machineSays paperSays treeA entrance treeB pair gives walking table
+examples = refl

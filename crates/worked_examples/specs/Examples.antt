@@ -1,0 +1,108 @@
+-- 01's surveyed examples P1 to P12, as one table and a single claim about the definitions.
+use Rattle.base.specs.Kit.{List, [], _∷_, _++_, Option, none, some, ℕ, zero, suc, _+_, eqb, length, take, replicate}
+use Rattle.base.specs.Pick.{pick}
+use Rattle.layering.specs.Keys.{Pair}
+use Rattle.walk.specs.Placing.{place}
+use Rattle.scan.specs.Machine.{step}
+use Rattle.cursor.specs.declared.range_bound.StartMode.{StartMode}
+use Rattle.cursor.specs.declared.range_bound.StartMode.the-variants.{Above, From}
+use Rattle.walk.specs.declared.scan_state.Placed.{Placed}
+use Rattle.walk.specs.declared.scan_state.Answer.{Answer}
+use Rattle.walk.specs.declared.scan_state.Answer.the-variants.{Key, Nothing, Declined}
+use Rattle.walk.specs.declared.scan_state.Stepped.{Stepped}
+use Rattle.walk.specs.declared.scan_state.Walk.{Walk}
+use Rattle.worked_examples.specs.Sample.{station, dead, layerSlot, leafBytes, imageOf, oneLeaf}
+
+-- What an example says: the number with which placing or a step declines, 0 where the walk comes to its end; the keys handed out
+-- with their values before that; and all moves up to and with the first none, where 01 gives them.
+pub record Said : Type 0 where
+  pub number : ℕ
+  pub pairs : List Pair
+  pub moves : Option ℕ
+
+pub record Example : Type 0 where
+  pub image : List ℕ
+  pub mode : StartMode
+  pub cursor : List ℕ
+  pub kind : ℕ
+  pub bound : List ℕ
+  pub says : Said
+
+-- What a walk hands out in at most n steps: its keys and values up to the first answer that is no key, that answer's number, and
+-- all moves.
+pub record Handed : Type 0 where
+  pub number : ℕ
+  pub pairs : List Pair
+  pub moves : ℕ
+
+unfoldable pub onAnswer : Answer → Stepped → Handed → Handed
+onAnswer (Key len value) s rest = record { number = rest .number; pairs = record { key = take len (s .walk .cursor .buf); value = value } ∷ rest .pairs; moves = s .moves + rest .moves }
+onAnswer Nothing s rest = record { number = 0; pairs = []; moves = s .moves }
+onAnswer (Declined n) s rest = record { number = n; pairs = []; moves = s .moves }
+
+unfoldable pub hand : ℕ → List ℕ → Walk → Handed
+hand zero image w = record { number = 0; pairs = []; moves = 0 }
+hand (suc n) image w =
+    let s = step w image in
+    let rest = hand n image (s .walk) in
+    onAnswer (s .answer) s rest
+
+-- 01 gives the moves of some examples only.
+unfoldable pub asked : Option ℕ → ℕ → Option ℕ
+asked (some n) moves = some moves
+asked none moves = none
+
+-- What the machine says of an example: the placing's number; or what as many steps as the example has keys, and one more, hand out.
+unfoldable pub answered : Example → Placed → Said
+answered e p =
+    let h = hand (length (e .says .pairs) + 1) (e .image) (p .walk) in
+    pick (eqb (p .code) 0) (record { number = h .number; pairs = h .pairs; moves = asked (e .says .moves) (h .moves) })
+    (record { number = p .code; pairs = []; moves = none })
+
+unfoldable pub machineSays : Example → Said
+machineSays e = answered e (place (e .image) (e .mode) (e .cursor) (e .kind) (e .bound))
+
+unfoldable pub paperSays : Example → Said
+paperSays e = e .says
+
+-- "Tree A: one leaf, ""=1, "a"=7, "ab"=9, 440 bytes."
+unfoldable pub treeA : List ℕ
+treeA = oneLeaf (station [] 1 ∷ station (97 ∷ []) 7 ∷ station (97 ∷ 98 ∷ []) 9 ∷ [])
+
+-- "Tree B: a root leaf whose one slot is a layer at "entrance", its leaf holding ".1"=4, ".2"=5; 840 bytes."
+unfoldable pub entrance : List ℕ
+entrance = 101 ∷ 110 ∷ 116 ∷ 114 ∷ 97 ∷ 110 ∷ 99 ∷ 101 ∷ []
+
+unfoldable pub treeB : List ℕ
+treeB = imageOf (leafBytes (station (46 ∷ 49 ∷ []) 4 ∷ station (46 ∷ 50 ∷ []) 5 ∷ []) ++ leafBytes (layerSlot entrance 8 ∷ [])) 408 2
+
+-- A key with a value, and an example that hands out keys.
+unfoldable pub pair : List ℕ → ℕ → Pair
+pair key value = record { key = key; value = value }
+
+unfoldable pub gives : List Pair → Option ℕ → Said
+gives pairs moves = record { number = 0; pairs = pairs; moves = moves }
+
+unfoldable pub walking : List ℕ → StartMode → List ℕ → ℕ → List ℕ → Said → Example
+walking image mode cursor kind bound says = record { image = image; mode = mode; cursor = cursor; kind = kind; bound = bound; says = says }
+
+unfoldable pub table : List Example
+table =
+    -- P1 A above "": a, ab, none; 5 moves. P2 A from "": all three; 6 moves. P3 A above "a": ab. P4 A above "ab": none.
+    walking treeA Above [] 0 [] (gives (pair (97 ∷ []) 7 ∷ pair (97 ∷ 98 ∷ []) 9 ∷ []) (some 5))
+    ∷ walking treeA From [] 0 [] (gives (pair [] 1 ∷ pair (97 ∷ []) 7 ∷ pair (97 ∷ 98 ∷ []) 9 ∷ []) (some 6))
+    ∷ walking treeA Above (97 ∷ []) 0 [] (gives (pair (97 ∷ 98 ∷ []) 9 ∷ []) none)
+    ∷ walking treeA Above (97 ∷ 98 ∷ []) 0 [] (gives [] none)
+    -- P5 B from "": entrance.1, entrance.2; 10 moves. P6 B above "entrance": both. P7 B from "", included "entrance.1": that one,
+    -- then none. P8 same, excluded: none.
+    ∷ walking treeB From [] 0 [] (gives (pair (entrance ++ (46 ∷ 49 ∷ [])) 4 ∷ pair (entrance ++ (46 ∷ 50 ∷ [])) 5 ∷ []) (some 10))
+    ∷ walking treeB Above entrance 0 [] (gives (pair (entrance ++ (46 ∷ 49 ∷ [])) 4 ∷ pair (entrance ++ (46 ∷ 50 ∷ [])) 5 ∷ []) none)
+    ∷ walking treeB From [] 1 (entrance ++ (46 ∷ 49 ∷ [])) (gives (pair (entrance ++ (46 ∷ 49 ∷ [])) 4 ∷ []) none)
+    ∷ walking treeB From [] 2 (entrance ++ (46 ∷ 49 ∷ [])) (gives [] none)
+    -- P9 leaf with "a", "a\0", above "a": "a\0". P10 dead "a", live "b", from "": b. P11 empty leaf, above "": none, 3 moves. P12
+    -- nine-byte cursor: 11; 02 [1]: "Example P12 becomes a 257-byte cursor".
+    ∷ walking (oneLeaf (station (97 ∷ []) 1 ∷ station (97 ∷ 0 ∷ []) 2 ∷ [])) Above (97 ∷ []) 0 [] (gives (pair (97 ∷ 0 ∷ []) 2 ∷ []) none)
+    ∷ walking (oneLeaf (dead (97 ∷ []) 1 ∷ station (98 ∷ []) 2 ∷ [])) From [] 0 [] (gives (pair (98 ∷ []) 2 ∷ []) none)
+    ∷ walking (oneLeaf []) Above [] 0 [] (gives [] (some 3))
+    ∷ walking treeA Above (replicate 257 97) 0 [] (record { number = 11; pairs = []; moves = none })
+    ∷ []
