@@ -23,7 +23,7 @@ use Rattle.layering.proofs.Descent.{Past, past-weight, past-asc, past-sieve, no
 use Rattle.layering.proofs.Walk.{Stack, frame, above, climb}
 use Rattle.search.specs.Traversal.{reach}
 use Rattle.search.specs.Helper.{position, slotIn}
-use Rattle.search.specs.Start.{verdict, byVerdict, startFrom, startPosition}
+use Rattle.start.specs.Start.{verdict, byVerdict, startFrom, startPosition}
 use Rattle.moves.specs.Moves.{standAt, standing, kept, begin, startIn, findStart, passIn}
 use Rattle.scan.specs.Machine.{Scan, pushing, entered, movedBy, before, moveIn, move}
 use Rattle.demands.proofs.Leaf.{usedIn, ikeyIn, LeafOk, past-slot}

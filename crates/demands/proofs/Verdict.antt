@@ -19,7 +19,7 @@ use Rattle.layering.specs.Accepted.{EndsHere, HasSuffix}
 use Rattle.layering.proofs.Part.{slotRank, own-bytes, own-rank}
 use Rattle.layering.proofs.Real.{Real}
 use Rattle.search.specs.Helper.{slotIn, byOrder, suffixBytes}
-use Rattle.search.specs.Start.{atEqual, shortVerdict, suffixVerdict, longVerdict, verdict}
+use Rattle.start.specs.Start.{atEqual, shortVerdict, suffixVerdict, longVerdict, verdict}
 use Rattle.demands.proofs.Leaf.{usedIn, ikeyIn, keylenxIn, LeafOk}
 
 -- A START by byte order.

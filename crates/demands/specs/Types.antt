@@ -28,10 +28,10 @@ pub use Rattle.search.specs.declared.helper.Searched.{Searched}
 pub use Rattle.search.specs.declared.helper.Searched.the-variants.{At as SearchedAt}
 pub use Rattle.search.specs.declared.helper.StoredOrder.{StoredOrder}
 pub use Rattle.search.specs.declared.helper.StoredOrder.the-variants.{Less as StoredOrderLess, Equal as StoredOrderEqual, Greater as StoredOrderGreater, NoSuffix}
-pub use Rattle.search.specs.declared.start.Started.{Started}
-pub use Rattle.search.specs.declared.start.Started.the-variants.{At as StartedAt, Enter as StartedEnter}
-pub use Rattle.search.specs.declared.start.Verdict.{Verdict}
-pub use Rattle.search.specs.declared.start.Verdict.the-variants.{Pass as VerdictPass, Stand, Enter as VerdictEnter, Fault}
+pub use Rattle.start.specs.declared.Started.{Started}
+pub use Rattle.start.specs.declared.Started.the-variants.{At as StartedAt, Enter as StartedEnter}
+pub use Rattle.start.specs.declared.Verdict.{Verdict}
+pub use Rattle.start.specs.declared.Verdict.the-variants.{Pass as VerdictPass, Stand, Enter as VerdictEnter, Fault}
 pub use Rattle.search.specs.declared.traversal.Reached.the-variants.{Leaf as ReachedLeaf}
 pub use Rattle.search.specs.declared.traversal.RecordKind.the-variants.{Leaf as RecordKindLeaf, Internode}
 pub use Rattle.verify.specs.declared.Counts.{Counts}

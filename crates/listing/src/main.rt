@@ -5,9 +5,9 @@ use cursor::range_bound::StartMode;
 use node::trailer;
 use requests::LINE;
 use requests::first;
+use verify::Checked;
 use walk::scan_state::Answer;
 use walk::scan_state::Walk;
-use verify::Checked;
 
 // Writes the first n bytes of a line; false where the output fails.
 fn put(line: &[u8], n: usize) -> bool {

@@ -6,10 +6,10 @@ use Rattle.node.specs.Layout.{suffixAt}
 use Rattle.moves.specs.Types.{Slot, Reached, Leaf as ReachedLeaf, CursorPlace, StartMode, Started, Enter, Pass, ScanState, ScanCtx}
 use Rattle.search.specs.Traversal.{leafThere, reach}
 use Rattle.search.specs.Helper.{suffixReadable, suffixBytes}
-use Rattle.search.specs.Start.{startPosition}
+use Rattle.start.specs.Start.{startPosition}
 use Rattle.search.proofs.Answers.{suffix-in}
 use Rattle.search.proofs.Laws.{leaf-there, reach-leaf}
-use Rattle.search.proofs.StartLaws.{enter-within}
+use Rattle.start.proofs.StartLaws.{enter-within}
 use Rattle.moves.specs.Moves.{Taken, begin, startIn, findStart, passIn, InBuffer}
 
 module _ (image : List ℕ) (leaf : ℕ) where

@@ -3,8 +3,8 @@
 use Rattle.base.specs.Kit.{_≡_, refl, List, _⊎_, ℕ, _+_, _≤_}
 use Rattle.moves.specs.Types.{StartMode, From, Searched, SearchedAt as At, SearchedFault, Reached, Leaf, ReachedFault as Fault, ScanCtx}
 use Rattle.search.specs.Traversal.{reach}
-use Rattle.search.specs.Start.{firstNotBelow, started}
-use Rattle.search.proofs.ByRule01.{by-rule-01}
+use Rattle.start.specs.Start.{firstNotBelow, started}
+use Rattle.start.proofs.ByRule01.{by-rule-01}
 use Rattle.moves.specs.Moves.{standing, kept, begin, startIn, findStart}
 use Rattle.moves.specs.Start01.{startIn01, findStart01}
 

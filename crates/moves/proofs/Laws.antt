@@ -7,9 +7,9 @@ use Rattle.node.specs.Permuter.{sizeOf}
 use Rattle.moves.specs.Types.{Position, Slot, CursorPlace, Searched, SearchedAt as At, SearchedFault, StartMode, Started, StartedAt, Enter as StartedEnter, StartedFault, Reached, Leaf as ReachedLeaf, ReachedFault, ScanState, Start, Retry, FindNext, Down, Up, ScanCtx, Outcome, Continue, Push, Emit, Exhausted, OutcomeFault as Fault, Pass, Duplicate, No, Yes, DuplicateFault as DupFault}
 use Rattle.cursor.specs.CursorKey.{shift, shiftClear, unshift, withIkey, withLength}
 use Rattle.search.specs.Traversal.{reach}
-use Rattle.search.specs.Start.{startPosition}
+use Rattle.start.specs.Start.{startPosition}
 use Rattle.search.proofs.Laws.{lower-within}
-use Rattle.search.proofs.StartLaws.{start-within, enter-within}
+use Rattle.start.proofs.StartLaws.{start-within, enter-within}
 use Rattle.moves.specs.Moves.{faulted, standing, begin, startIn, findStart, retryIn, findRetry, handleDown, handleUp, advanceLeaf, Taken, kept, onward, emitKey, isStorable, keyPlace, handOut, takeKey, takeLayer, takeSlot, unlessDup, backToRetry, findSlot, findNext, passIn, InBuffer, InRange}
 use Rattle.moves.proofs.StoredKey.{stored, key-fits, key-buf-length}
 

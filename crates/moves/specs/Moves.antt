@@ -9,7 +9,7 @@ use Rattle.cursor.specs.CursorKey.{shift, shiftClear, unshift, hasSuffix, compa
 use Rattle.cursor.specs.RangeBound.{contains}
 use Rattle.search.specs.Traversal.{leafThere, reach}
 use Rattle.search.specs.Helper.{position, slotIn, byOrder, suffixReadable, suffixBytes, storedOrder, lowerWithSuffix}
-use Rattle.search.specs.Start.{startPosition}
+use Rattle.start.specs.Start.{startPosition}
 
 -- What a move changes of `c`: all but the layer. What entering or leaving a layer changes: the layer's root, its leaf, the depth.
 abbrev pub standAt : ScanCtx → ℕ → Position → CursorPlace → ScanState → Bool → ℕ → ScanCtx

@@ -2,7 +2,7 @@
 -- proofs/ByRule01.antt.
 use Rattle.base.specs.Kit.{List, ℕ}
 use Rattle.search.specs.Traversal.{reach}
-use Rattle.search.specs.Start.{firstNotBelow}
+use Rattle.start.specs.Start.{firstNotBelow}
 use Rattle.moves.specs.Types.{Reached, Leaf, ReachedFault as Fault, ScanCtx, Pass}
 use Rattle.moves.specs.Moves.{faulted, standing}
 

@@ -8,8 +8,8 @@ pub use Rattle.search.specs.declared.helper.Searched.{Searched}
 pub use Rattle.search.specs.declared.helper.Searched.the-variants.{At as SearchedAt, Fault as SearchedFault}
 pub use Rattle.search.specs.declared.helper.StoredOrder.{StoredOrder}
 pub use Rattle.search.specs.declared.helper.StoredOrder.the-variants.{Less, Equal, Greater, NoSuffix, Fault as StoredOrderFault}
-pub use Rattle.search.specs.declared.start.Started.{Started}
-pub use Rattle.search.specs.declared.start.Started.the-variants.{Enter, At as StartedAt, Fault as StartedFault}
+pub use Rattle.start.specs.declared.Started.{Started}
+pub use Rattle.start.specs.declared.Started.the-variants.{Enter, At as StartedAt, Fault as StartedFault}
 pub use Rattle.search.specs.declared.traversal.Reached.{Reached}
 pub use Rattle.search.specs.declared.traversal.Reached.the-variants.{Leaf, Fault as ReachedFault}
 pub use Rattle.moves.specs.declared.context.Outcome.{Outcome}

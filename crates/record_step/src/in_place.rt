@@ -1,8 +1,8 @@
 // A record's numbers, read and changed where they are, for the step that hands out the next slot's key.
-use walk_record::layout;
-use walk_record::record;
 use cursor::cursor_key::CursorPlace;
 use walk::scan_state::WalkState;
+use walk_record::layout;
+use walk_record::record;
 ghost use Rattle.base.specs.Kit.{_≡_, _≤_, length, getD};
 ghost use Rattle.walk_record.specs.Record.{numbersIn, positionAt};
 ghost use Rattle.record_step.specs.InPlace.{numbersOk, placeOf, keyNumbers};

@@ -1,20 +1,19 @@
 // A step of a record. Most hand out the next slot's key: they are made on the record where it is, by moves' fast path, and no walk is
 // built for them.
 use crate::in_place;
-use walk_record::layout;
-use walk_record::record;
-use cursor::cursor_key::CursorPlace;
 use moves::fast_path;
 use moves::fast_path::FastSlot;
 use moves::fast_path::NextKey;
 use node::permuter::Position;
 use node::permuter::Slot;
 use scan::forward_ctx;
+use search::traversal;
 use walk::scan_state::Answer;
 use walk::scan_state::Stepped;
 use walk::scan_state::Walk;
 use walk::scan_state::WalkState;
-use search::traversal;
+use walk_record::layout;
+use walk_record::record;
 ghost use Rattle.base.specs.Kit.{_≡_, true, length, getD};
 ghost use Rattle.search.specs.Traversal.{leafThere};
 ghost use Rattle.moves.specs.FastPath.{fastSlot};

@@ -3,13 +3,13 @@
 // placing gives can be asked for. Every step is printed with its moves; where one is declined, with the record after it. A request's
 // form is not looked at.
 use node::le;
-use walk_record::layout;
 use requests::Read;
 use requests::first;
 use requests::item;
 use requests::line;
 use requests::put;
 use requests::put_hex;
+use walk_record::layout;
 
 // The requests: more than there are.
 const MOST: usize = 1000;

@@ -9,10 +9,10 @@ use requests::item;
 use requests::line;
 use requests::put;
 use requests::put_hex;
+use verify::Checked;
 use walk::scan_state::Answer;
 use walk::scan_state::Placed;
 use walk::scan_state::Walk;
-use verify::Checked;
 
 // The requests: more than there are.
 const MOST: usize = 10000;

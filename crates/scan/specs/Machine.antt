@@ -1,8 +1,8 @@
 -- The machine: a step of a walk, over any bytes and any walk record (01, "Step a walk" and "That
 -- loop, its Start and the numbers above are the machine").
-use Rattle.base.specs.Kit.{Bool, true, false, not, _&&_, List, [], ℕ, zero, suc, _+_, _*_, _-_, leb, ltb, eqb, length, take, getD, set, replicate}
+use Rattle.base.specs.Kit.{Bool, true, false, not, _&&_, List, ℕ, zero, suc, _+_, _-_, eqb, length, take, getD, set}
 use Rattle.base.specs.Pick.{pick}
-use Rattle.scan.specs.Types.{CursorKey, RangeBound, StartMode, Above, From, LayerContext, WalkState, WalkStateStart as Start, WalkStateRetry as Retry, WalkStateFindNext as FindNext, Ended, Walk, ScanState, ScanCtx, Outcome, Continue, Push, Emit, Exhausted, OutcomeFault as Fault, Placed, Answer, Key, Nothing, Declined, Stepped}
+use Rattle.scan.specs.Types.{StartMode, LayerContext, WalkState, WalkStateStart as Start, WalkStateRetry as Retry, WalkStateFindNext as FindNext, Ended, Walk, ScanState, ScanCtx, Outcome, Continue, Push, Emit, Exhausted, OutcomeFault as Fault, Answer, Key, Nothing, Declined, Stepped}
 use Rattle.walk.specs.Walk.{emptyContext, walkOk}
 use Rattle.moves.specs.Moves.{Taken, inLayer, passIn}
 use Rattle.moves.specs.declared.context.ScanState.the-variants as loop

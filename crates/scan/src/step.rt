@@ -1,15 +1,15 @@
 // Stepping a walk (01, "Step a walk"), and all its steps at once as a count: `step` and `count_keys` take anything.
 use crate::forward_ctx;
 use crate::scan_ctx;
-use walk::scan_state::Answer;
-use walk::scan_state::Stepped;
-use walk::scan_state::Walk;
-use walk::scan_state::WalkState;
 use moves::context;
 use moves::fast_path;
 use moves::fast_path::FastSlot;
 use moves::fast_path::NextKey;
 use search::traversal;
+use walk::scan_state::Answer;
+use walk::scan_state::Stepped;
+use walk::scan_state::Walk;
+use walk::scan_state::WalkState;
 use walk::walk_ok;
 ghost use Rattle.base.specs.Kit.{_≡_, true, length};
 ghost use Rattle.scan.specs.Types.{WalkStateFindNext as FindNext};

@@ -1,4 +1,3 @@
 pub mod Types
 pub mod Traversal
 pub mod Helper
-pub mod Start

@@ -1,10 +1,7 @@
 -- The types of code that this crate's definitions and proofs speak of, each with the variants that they name.
 pub use Rattle.cursor.specs.declared.cursor_key.CursorPlace.{CursorPlace}
-pub use Rattle.cursor.specs.declared.range_bound.StartMode.{StartMode}
-pub use Rattle.cursor.specs.declared.range_bound.StartMode.the-variants.{From, Above}
 pub use Rattle.key.specs.declared.Ordering.{Ordering}
 pub use Rattle.key.specs.declared.Ordering.the-variants.{Less as OrderingLess, Equal as OrderingEqual, Greater as OrderingGreater}
-pub use Rattle.node.specs.declared.leaf.Suffix.{Suffix}
 pub use Rattle.node.specs.declared.permuter.Position.{Position}
 pub use Rattle.node.specs.declared.permuter.Slot.{Slot}
 pub use Rattle.search.specs.declared.helper.KeyIndexedPosition.{KeyIndexedPosition}
@@ -13,10 +10,6 @@ pub use Rattle.search.specs.declared.helper.Searched.{Searched}
 pub use Rattle.search.specs.declared.helper.Searched.the-variants.{At as SearchedAt, Fault as SearchedFault}
 pub use Rattle.search.specs.declared.helper.StoredOrder.{StoredOrder}
 pub use Rattle.search.specs.declared.helper.StoredOrder.the-variants.{Less as StoredOrderLess, Equal as StoredOrderEqual, Greater as StoredOrderGreater, NoSuffix, Fault as StoredOrderFault}
-pub use Rattle.search.specs.declared.start.Started.{Started}
-pub use Rattle.search.specs.declared.start.Started.the-variants.{At as StartedAt, Enter as StartedEnter, Fault as StartedFault}
-pub use Rattle.search.specs.declared.start.Verdict.{Verdict}
-pub use Rattle.search.specs.declared.start.Verdict.the-variants.{Pass, Stand, Enter as VerdictEnter, Fault as VerdictFault}
 pub use Rattle.search.specs.declared.traversal.Reached.{Reached}
 pub use Rattle.search.specs.declared.traversal.Reached.the-variants.{Leaf as ReachedLeaf, Fault as ReachedFault}
 pub use Rattle.search.specs.declared.traversal.RecordKind.{RecordKind}

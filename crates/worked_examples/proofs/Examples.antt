@@ -14,7 +14,7 @@ use Rattle.cursor.specs.CursorKey.{fromSlice, shiftClear, unshift, hasSuffix, s
 use Rattle.cursor.specs.RangeBound.{admits, contains, boundOf}
 use Rattle.search.specs.Traversal.{readable, recordAt, byKind, leafThere, childFor, reachFrom, reach}
 use Rattle.search.specs.Helper.{byOrder, lowerFrom, lowerWithPosition, suffixReadable, suffixBytes, storedIs, storedOrder, notShorter, afterInline, notBelow, afterSuffix, behind, pastLayer, pastInline, pastSuffix, atMatch, atFound, lowerWithSuffix}
-use Rattle.search.specs.Start.{shortVerdict, verdict, byVerdict, startFrom, startPosition}
+use Rattle.start.specs.Start.{shortVerdict, verdict, byVerdict, startFrom, startPosition}
 use Rattle.moves.specs.Moves.{faulted, standing, begin, startIn, findStart, retryIn, findRetry, handleDown, handleUp, advanceLeaf, dupBySuffix, dupOf, kept, onward, isStorable, keyPlace, keyBuf, handOut, emitKey, takeKey, takeLayer, takeSlot, unlessDup, backToRetry, findSlot, findNext, passIn}
 use Rattle.walk.specs.Walk.{zeroWalk, walkOk}
 use Rattle.walk.specs.Placing.{placeFault, startState, freshWalk, place}

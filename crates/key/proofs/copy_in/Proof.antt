@@ -1,6 +1,7 @@
 -- `key::copy_in` meets its contract. The loop's invariant: the buffer is the one that came in with the first i bytes pasted
 -- in. The measure is what is left of the bytes. Assumes nothing.
 use Rattle.base.specs.Kit.{_≡_, _∙_, _+_, _-_, _≤_, _<_, add-one, arith, length, length-set, paste, paste-zero, paste-suc, needs}
+use Rattle.base.proofs.Needs.{five}
 use Rattle.key.proofs.copy_in.Statement.{statement}
 use Rattle.key.proofs.copy_in.Tie as tie
 
@@ -30,15 +31,10 @@ returns c =
 pub copy-in-spec : {M : Type 1} → statement M
 copy-in-spec =
     tie.close
-    (tie.spec
+    (five (tie.spec
     Inv-loop
     μ-loop
-    loop-holds
-    (λ c. search needs)
-    (λ c. search needs)
-    (λ c. search needs)
-    (λ c. search needs)
-    (λ c. search needs)
+    loop-holds) (search needs)
     loop-again
     (λ c. search needs)
     returns)

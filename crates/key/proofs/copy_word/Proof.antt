@@ -1,5 +1,6 @@
 -- `key::copy_word` meets its contract: the word holds the eight bytes, and goes on into the buffer. Assumes nothing.
 use Rattle.base.specs.Kit.{arith, needs}
+use Rattle.base.proofs.Needs.{four}
 use Rattle.key.proofs.Words.{word-long, word-in}
 use Rattle.key.proofs.copy_word.Statement.{statement}
 use Rattle.key.proofs.copy_word.Tie as tie
@@ -10,14 +11,6 @@ copy-in-requires c κs = omega (arith, word-long _ _ (omega arith) (c .before .b
 pub copy-word-spec : {M : Type 1} → statement M
 copy-word-spec =
     tie.close
-    (tie.spec
-    (λ c. search needs)
-    (λ c κs. search needs)
-    (λ c. search needs)
-    (λ c κs. search needs)
-    copy-in-requires
-    (λ c. search needs)
-    (λ c. search needs)
-    (λ c κs. search needs)
-    (λ c. search needs)
+    (four (four tie.spec (search needs)
+    copy-in-requires) (search needs)
     (λ c. search word-in))

@@ -1,5 +1,6 @@
 -- `key::copy_words_in` meets its contract: the four words hold all bytes, some of them twice. Assumes nothing.
 use Rattle.base.specs.Kit.{needs}
+use Rattle.base.proofs.Needs.{five}
 use Rattle.key.proofs.Words.{four-words}
 use Rattle.key.proofs.copy_words_in.Statement.{statement}
 use Rattle.key.proofs.copy_words_in.Tie as tie
@@ -7,12 +8,7 @@ use Rattle.key.proofs.copy_words_in.Tie as tie
 pub copy-words-in-spec : {M : Type 1} → statement M
 copy-words-in-spec =
     tie.close
-    (tie.spec
-    (λ c κs. search needs)
-    (λ c κs. search needs)
-    (λ c κs. search needs)
-    (λ c κs. search needs)
-    (λ c. search needs)
+    (five tie.spec (search needs)
     (λ c. search four-words)
     (λ c κs. search needs)
     (λ c. search needs)

@@ -1,5 +1,6 @@
 -- `pb_check` meets its contract: the answer decides, and then the length of the lent slice. Assumes nothing.
 use Rattle.base.specs.Kit.{sym, _∙_, eq-eqb, ne-eqb, needs}
+use Rattle.base.proofs.Needs.{five}
 use Rattle.base.specs.Pick.{pick}
 use Rattle.verify.specs.Check.{numberOf}
 use Rattle.punchbronze.specs.Interface.{countsAfter}
@@ -27,12 +28,7 @@ returns-3 c =
 pub pb-check-spec : {M : Type 1} → statement M
 pb-check-spec =
     tie.close
-    (tie.spec
-    (λ c κs. search needs)
-    (λ c. search needs)
-    (λ c. search needs)
-    (λ c. search needs)
-    (λ c κs. search needs)
+    (five tie.spec (search needs)
     returns
     (λ c. search needs)
     returns-2

@@ -1,5 +1,6 @@
 -- The check first, then the placing, then the count: each way out has its law.
 use Rattle.base.specs.Kit.{needs}
+use Rattle.base.proofs.Needs.{four}
 use Rattle.survey.proofs.Answers.{check-declines, place-declines, counts}
 use Rattle.survey.proofs.tally.Statement.{statement}
 use Rattle.survey.proofs.tally.Tie as tie
@@ -23,11 +24,7 @@ returns-3 c =
 pub tally-spec : {M : Type 1} → statement M
 tally-spec =
     tie.close
-    (tie.spec
-    (λ c κs. search needs)
-    (λ c. search needs)
-    (λ c. search needs)
-    (λ c κs. search needs)
+    (four tie.spec (search needs)
     returns
     (λ c κs. search needs)
     returns-2

@@ -1,5 +1,6 @@
 -- Each order of the cursor to the slot has its arm.
 use Rattle.base.specs.Kit.{needs}
+use Rattle.base.proofs.Needs.{eight}
 use Rattle.search.specs.Helper.{byOrder}
 use Rattle.moves.specs.Moves.{dupOf}
 use Rattle.moves.proofs.find_next.duplicate_at.Statement.{statement}
@@ -20,15 +21,7 @@ returns-3 c = rw (← c .before .before .before .before .keylenx .ensures, ← c
 pub duplicate-at-spec : {M : Type 1} → statement M
 duplicate-at-spec =
     tie.close
-    (tie.spec
-    (λ c κs. search needs)
-    (λ c κs. search needs)
-    (λ c. search needs)
-    (λ c κs. search needs)
-    (λ c. search needs)
-    (λ c. search needs)
-    (λ c κs. search needs)
-    (λ c. search needs)
+    (eight tie.spec (search needs)
     returns
     returns-2
     returns-3)

@@ -1,5 +1,6 @@
 -- The test stands in the order of the definition, and each order of the suffixes has its arm.
 use Rattle.base.specs.Kit.{needs}
+use Rattle.base.proofs.Needs.{six}
 use Rattle.base.proofs.Choice.{choices}
 use Rattle.moves.specs.Moves.{dupBySuffix}
 use Rattle.moves.proofs.find_next.duplicate_by_suffix.Statement.{statement}
@@ -31,15 +32,9 @@ returns-6 c = rw (← c .before .before .compare-stored .ensures, c .enum-told5 
 pub duplicate-by-suffix-spec : {M : Type 1} → statement M
 duplicate-by-suffix-spec =
     tie.close
-    (tie.spec
+    (six (tie.spec
     (λ c κs. search needs)
-    returns
-    (λ c κs. search needs)
-    (λ c. search needs)
-    (λ c. search needs)
-    (λ c. search needs)
-    (λ c. search needs)
-    (λ c. search needs)
+    returns) (search needs)
     returns-2
     returns-3
     returns-4

@@ -1,5 +1,6 @@
 -- The tests stand in the order of the definition, and each answer of the duplicate check has its arm.
 use Rattle.base.specs.Kit.{refl, le-ltb, lt-ltb, le-leb, lt-leb, needs}
+use Rattle.base.proofs.Needs.{seven}
 use Rattle.base.specs.Pick.{pick}
 use Rattle.moves.specs.Moves.{kept, unlessDup, backToRetry, findSlot}
 use Rattle.moves.proofs.find_next.find_slot.Statement.{statement}
@@ -30,19 +31,12 @@ returns-5 c = rw (lt-leb _ _ (c .before .before .before .before .before .before 
 pub find-slot-spec : {M : Type 1} → statement M
 find-slot-spec =
     tie.close
-    (tie.spec
+    (seven (tie.spec
     (λ c κs. search needs)
     returns
     (λ c κs. search needs)
     (λ c κs. search needs)
-    returns-2
-    (λ c κs. search needs)
-    (λ c. search needs)
-    (λ c κs. search needs)
-    (λ c. search needs)
-    (λ c κs. search needs)
-    (λ c. search needs)
-    (λ c κs. search needs)
+    returns-2) (search needs)
     returns-3
     returns-4
     returns-5)

@@ -1,5 +1,6 @@
 -- Each answer of the search has its arm.
 use Rattle.base.specs.Kit.{refl, needs}
+use Rattle.base.proofs.Needs.{four}
 use Rattle.moves.specs.Moves.{kept, begin}
 use Rattle.moves.proofs.Answers.{start-as, enters-in}
 use Rattle.moves.proofs.find_start.start_in.Statement.{statement}
@@ -9,11 +10,7 @@ pub start-in-spec : {M : Type 1} → statement M
 unfolding begin kept
 start-in-spec =
     tie.close
-    (tie.spec
-    (λ c κs. search needs)
-    (λ c. search needs)
-    (λ c κs. search needs)
-    (λ c. search needs)
+    (four tie.spec (search needs)
     (λ c κs. let g = enters-in _ _ _ _ _ _ _ (c .before .before .before .before .start-position .ensures) (c .before .before .found2 .given .1) in search needs)
     (λ c. search needs)
     (λ c κs. search needs)

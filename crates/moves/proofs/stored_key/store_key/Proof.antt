@@ -1,5 +1,6 @@
 -- The calls store what the definition stores, one after the other; a suffix that is stored can be read and fits.
 use Rattle.base.specs.Kit.{_∙_, le-leb, lt-leb, needs}
+use Rattle.base.proofs.Needs.{six}
 use Rattle.base.specs.Pick.{pick}
 use Rattle.cursor.specs.CursorKey.{withIkey}
 use Rattle.moves.specs.Moves.{keyPlace, keyBuf}
@@ -48,13 +49,7 @@ returns-2 c =
 pub store-key-spec : {M : Type 1} → statement M
 store-key-spec =
     tie.close
-    (tie.spec
-    (λ c κs. search needs)
-    (λ c κs. search needs)
-    (λ c κs. search needs)
-    (λ c. search needs)
-    (λ c κs. search needs)
-    (λ c. search needs)
+    (six tie.spec (search needs)
     returns
     stored-suffix-requires
     assign-store-suffix-requires

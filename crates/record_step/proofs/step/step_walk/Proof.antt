@@ -1,5 +1,6 @@
 -- `step_walk` meets its contract: the number of the step decides. Assumes nothing.
 use Rattle.base.specs.Kit.{_∙_, needs}
+use Rattle.base.proofs.Needs.{six}
 use Rattle.walk_record.proofs.Told.{record-told}
 use Rattle.record_step.proofs.InPlace.{read-tested}
 use Rattle.record_step.proofs.Steps.{declined, taken}
@@ -39,18 +40,12 @@ returns-2 c =
 pub step-walk-spec : {M : Type 1} → statement M
 step-walk-spec =
     tie.close
-    (tie.spec
+    (six (tie.spec
     read-walk-requires
     step-of-requires
     (λ c κs. search needs)
     (λ c. search needs)
     (λ c. search needs)
     returns
-    put-moved-requires
-    (λ c κs. search needs)
-    (λ c. search needs)
-    (λ c κs. search needs)
-    (λ c. search needs)
-    (λ c. search needs)
-    (λ c. search needs)
+    put-moved-requires) (search needs)
     returns-2)

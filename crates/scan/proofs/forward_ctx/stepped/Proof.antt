@@ -1,17 +1,13 @@
 -- Each answer has its arm.
 use Rattle.base.specs.Kit.{needs}
+use Rattle.base.proofs.Needs.{five}
 use Rattle.scan.proofs.forward_ctx.stepped.Statement.{statement}
 use Rattle.scan.proofs.forward_ctx.stepped.Tie as tie
 
 pub stepped-spec : {M : Type 1} → statement M
 stepped-spec =
     tie.close
-    (tie.spec
-    (λ c. search needs)
-    (λ c κs. search needs)
-    (λ c. search needs)
-    (λ c κs. search needs)
-    (λ c. search needs)
+    (five tie.spec (search needs)
     (λ c. rw (c .before .before .answer .given .1, c .walk-of .ensures))
     (λ c. rw (c .before .enum-told .given .1, c .walk-of2 .ensures))
     (λ c. rw (c .before .answer2 .given .1)))

@@ -1,5 +1,6 @@
 -- The tests stand in the order of the definition, and each order has its arm.
 use Rattle.base.specs.Kit.{sym, _∙_, needs, not-false}
+use Rattle.base.proofs.Needs.{four}
 use Rattle.base.proofs.Choice.{choices, by-number}
 use Rattle.search.specs.Helper.{storedIs, storedOrder}
 use Rattle.search.proofs.Answers.{stored-as}
@@ -14,16 +15,12 @@ pub compare-stored-spec : {M : Type 1} → statement M
 unfolding storedOrder storedIs
 compare-stored-spec =
     tie.close
-    (tie.spec
+    (four (tie.spec
     (λ c κs. search needs)
     (λ c. search by-number)
     (λ c κs. search needs)
     (λ c. search (choices, by-number))
-    stored-suffix-requires
-    (λ c κs. search needs)
-    (λ c. search needs)
-    (λ c. search needs)
-    (λ c. search needs)
+    stored-suffix-requires) (search needs)
     (λ c. search (choices, by-number, stored-as))
     (λ c. search (choices, by-number, stored-as))
     (λ c. search (choices, by-number, stored-as)))

@@ -1,6 +1,7 @@
 -- `record::copy_words` meets its contract. The loop's invariant: the slice is the one that came in with the first i numbers
 -- pasted in. The measure is what is left of the numbers. Assumes nothing.
 use Rattle.base.specs.Kit.{_≡_, _∙_, _-_, _≤_, _<_, arith, length, length-set, paste, paste-zero, needs}
+use Rattle.base.proofs.Needs.{six}
 use Rattle.walk_record.proofs.Copies.{paste-whole, paste-next}
 use Rattle.walk_record.proofs.record.copy_words.Statement.{statement}
 use Rattle.walk_record.proofs.record.copy_words.Tie as tie
@@ -31,16 +32,10 @@ returns c =
 pub copy-words-spec : {M : Type 1} → statement M
 copy-words-spec =
     tie.close
-    (tie.spec
+    (six (tie.spec
     Inv-loop
     μ-loop
-    loop-holds
-    (λ c. search needs)
-    (λ c. search needs)
-    (λ c. search needs)
-    (λ c. search needs)
-    (λ c. search needs)
-    (λ c. search needs)
+    loop-holds) (search needs)
     loop-again
     (λ c. search needs)
     returns)

@@ -1,5 +1,6 @@
 -- `record::head_of` meets its contract: the stores into zeroes are the definition written out. Assumes nothing.
 use Rattle.base.specs.Kit.{needs}
+use Rattle.base.proofs.Needs.{five, ten}
 use Rattle.walk_record.specs.Laid.{headOf}
 use Rattle.walk_record.proofs.record.head_of.Statement.{statement}
 use Rattle.walk_record.proofs.record.head_of.Tie as tie
@@ -11,20 +12,5 @@ returns c = rw (c .mode-number .ensures, c .before .state-number .ensures)
 pub head-of-spec : {M : Type 1} → statement M
 head-of-spec =
     tie.close
-    (tie.spec
-    (λ c. search needs)
-    (λ c. search needs)
-    (λ c. search needs)
-    (λ c. search needs)
-    (λ c. search needs)
-    (λ c. search needs)
-    (λ c. search needs)
-    (λ c. search needs)
-    (λ c. search needs)
-    (λ c. search needs)
-    (λ c. search needs)
-    (λ c κs. search needs)
-    (λ c. search needs)
-    (λ c κs. search needs)
-    (λ c. search needs)
+    (five (ten tie.spec (search needs)) (search needs)
     returns)

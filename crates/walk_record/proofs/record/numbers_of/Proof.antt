@@ -1,6 +1,7 @@
 -- `record::numbers_of` meets its contract. The loop's invariant: what the turns left make of the numbers is what all turns make
 -- of the first eleven. The measure is the turns left. Assumes nothing.
 use Rattle.base.specs.Kit.{_≡_, refl, sym, ap, _∙_, List, ℕ, _-_, _≤_, length, length-set, needs}
+use Rattle.base.proofs.Needs.{ten, three}
 use Rattle.walk_record.proofs.Turns.{spread, spread-more, spread-done, spread-all}
 use Rattle.walk_record.proofs.record.numbers_of.Statement.{statement}
 use Rattle.walk_record.proofs.record.numbers_of.Tie as tie
@@ -30,23 +31,10 @@ returns c =
 pub numbers-of-spec : {M : Type 1} → statement M
 numbers-of-spec =
     tie.close
-    (tie.spec
+    (three (ten (tie.spec
     Inv-loop
     μ-loop
     (λ c κs. search needs)
-    loop-holds
-    (λ c. search needs)
-    (λ c. search needs)
-    (λ c. search needs)
-    (λ c. search needs)
-    (λ c. search needs)
-    (λ c. search needs)
-    (λ c. search needs)
-    (λ c. search needs)
-    (λ c. search needs)
-    (λ c. search needs)
-    (λ c. search needs)
-    (λ c. search needs)
-    (λ c. search needs)
+    loop-holds) (search needs)) (search needs)
     loop-again
     returns)

@@ -1,5 +1,6 @@
 -- `record::put_moved` meets its contract: each lent slice gets its part of the record, whole. Assumes nothing.
 use Rattle.base.specs.Kit.{_∙_, needs}
+use Rattle.base.proofs.Needs.{six}
 use Rattle.walk_record.proofs.record.put_moved.Statement.{statement}
 use Rattle.walk_record.proofs.record.put_moved.Tie as tie
 
@@ -9,11 +10,5 @@ returns c = (c .before .before .before .before .before .before .before .before .
 pub put-moved-spec : {M : Type 1} → statement M
 put-moved-spec =
     tie.close
-    (tie.spec
-    (λ c κs. search needs)
-    (λ c. search needs)
-    (λ c κs. search needs)
-    (λ c κs. search needs)
-    (λ c. search needs)
-    (λ c. search needs)
+    (six tie.spec (search needs)
     returns)

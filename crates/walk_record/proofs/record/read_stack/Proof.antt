@@ -1,6 +1,7 @@
 -- `record::read_stack` meets its contract. The loop's invariant: what the turns left make of the stack is what all turns make of
 -- the empty one. The measure is the turns left. Assumes nothing.
 use Rattle.base.specs.Kit.{_≡_, refl, sym, _∙_, _-_, _≤_, length, length-set, needs}
+use Rattle.base.proofs.Needs.{ten, three}
 use Rattle.walk_record.specs.Record.{entryAt}
 use Rattle.walk_record.proofs.Turns.{fill, fill-more, fill-done, fill-all}
 use Rattle.walk_record.proofs.record.read_stack.Statement.{statement}
@@ -30,22 +31,9 @@ returns c = sym (fill-done _ _ _ (c .loop-test .left)) ∙ c .before .loop .inv 
 pub read-stack-spec : {M : Type 1} → statement M
 read-stack-spec =
     tie.close
-    (tie.spec
+    (three (ten (tie.spec
     Inv-loop
     μ-loop
-    loop-holds
-    (λ c. search needs)
-    (λ c. search needs)
-    (λ c. search needs)
-    (λ c. search needs)
-    (λ c. search needs)
-    (λ c. search needs)
-    (λ c. search needs)
-    (λ c. search needs)
-    (λ c. search needs)
-    (λ c. search needs)
-    (λ c. search needs)
-    (λ c. search needs)
-    (λ c. search needs)
+    loop-holds) (search needs)) (search needs)
     loop-again
     returns)

@@ -1,5 +1,6 @@
 -- `record::read_walk` meets its contract: the definition's fields. Assumes nothing.
 use Rattle.base.specs.Kit.{needs}
+use Rattle.base.proofs.Needs.{nine, three}
 use Rattle.walk_record.specs.Record.{readWalk}
 use Rattle.walk_record.specs.Laid.{readCursor, readBound}
 use Rattle.walk_record.proofs.record.read_walk.Statement.{statement}
@@ -12,17 +13,5 @@ returns c = simp (c .state-of .ensures, c .before .before .mode-of .ensures, c .
 pub read-walk-spec : {M : Type 1} → statement M
 read-walk-spec =
     tie.close
-    (tie.spec
-    (λ c. search needs)
-    (λ c. search needs)
-    (λ c. search needs)
-    (λ c. search needs)
-    (λ c κs. search needs)
-    (λ c. search needs)
-    (λ c κs. search needs)
-    (λ c κs. search needs)
-    (λ c. search needs)
-    (λ c κs. search needs)
-    (λ c. search needs)
-    (λ c κs. search needs)
+    (three (nine tie.spec (search needs)) (search needs)
     returns)

@@ -4,12 +4,12 @@ use Rattle.base.specs.Kit.{_≡_, refl, List, _⊎_, inl, inr, true, false, ℕ
 use Rattle.base.specs.Pick.{pick}
 use Rattle.base.proofs.Choice.{pick-ind, pick-map}
 use Rattle.key.specs.Order.{then}
-use Rattle.search.specs.Types.{Ordering, Slot, CursorPlace, StartMode, From, Verdict, Pass, Stand, Started, StartedAt as At}
+use Rattle.start.specs.Types.{Ordering, Slot, CursorPlace, StartMode, From, Verdict, Pass, Stand, Started, StartedAt as At}
 use Rattle.key.proofs.Order.{Cmp, is-lt, is-eq, is-gt, cmp}
 use Rattle.node.specs.Layout.{ikeyAt, keylenxAt}
 use Rattle.cursor.specs.CursorKey.{hasSuffix}
 use Rattle.search.specs.Helper.{position, slotIn, byOrder}
-use Rattle.search.specs.Start.{below, notBelowFrom, firstNotBelow, started, atEqual, shortVerdict, verdict, byVerdict, startFrom, startPosition}
+use Rattle.start.specs.Start.{below, notBelowFrom, firstNotBelow, started, atEqual, shortVerdict, verdict, byVerdict, startFrom, startPosition}
 
 module _ (mode : StartMode) (image : List ℕ) (leaf : ℕ) (k : CursorPlace) (buf : List ℕ) (short : k .len ≤ 8)
     (rule : (mode ≡ From) ⊎ (k .offset + k .len ≤ 8)) where

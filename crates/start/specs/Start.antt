@@ -5,9 +5,9 @@ use Rattle.base.specs.Pick.{pick}
 use Rattle.key.specs.Order.{byteOrder, order, then}
 use Rattle.node.specs.Permuter.{sizeOf}
 use Rattle.node.specs.Layout.{permutationAt, ikeyAt, keylenxAt, suffixAt}
-use Rattle.search.specs.Types.{Slot, CursorPlace, StartMode, Above, From, Searched, SearchedAt as At, SearchedFault as Fault, Verdict, Pass, Stand, VerdictEnter as Enter, VerdictFault, Started, StartedAt, StartedEnter, StartedFault}
+use Rattle.start.specs.Types.{Slot, CursorPlace, StartMode, Above, From, Searched, SearchedAt as At, SearchedFault as Fault, Verdict, Pass, Stand, VerdictEnter as Enter, VerdictFault, Started, StartedAt, StartedEnter, StartedFault}
 use Rattle.cursor.specs.CursorKey.{suffixOf, hasSuffix}
 use Rattle.search.specs.Helper.{position, slotIn, byOrder, suffixReadable, suffixBytes}
 
 -- 01'S RULE: "stand at the first slot whose ikey, then `keylenx`, is not below the cursor's ikey, then length, else past the last".
 unfoldable pub below : CursorPlace → ℕ → ℕ → Bool

@@ -4,11 +4,11 @@ use Rattle.base.specs.Kit.{_≡_, refl, List, ℕ, _≤_, _<_, arith, ltb-true}
 use Rattle.base.proofs.Choice.{pick-ind}
 use Rattle.node.specs.Layout.{permutationAt}
 use Rattle.node.specs.Permuter.{sizeOf}
-use Rattle.search.specs.Types.{Position, Slot, CursorPlace, StartMode, Above, From, Verdict, Pass, Stand, VerdictEnter as Enter, VerdictFault, Started, StartedAt as At, StartedEnter, StartedFault as Fault}
+use Rattle.start.specs.Types.{Position, Slot, CursorPlace, StartMode, Above, From, Verdict, Pass, Stand, VerdictEnter as Enter, VerdictFault, Started, StartedAt as At, StartedEnter, StartedFault as Fault}
 use Rattle.cursor.specs.CursorKey.{hasSuffix}
 use Rattle.search.specs.Helper.{position, slotIn}
-use Rattle.search.specs.Start.{atEqual, shortVerdict, suffixVerdict, longVerdict, verdict, byVerdict, startFrom, startPosition}
+use Rattle.start.specs.Start.{atEqual, shortVerdict, suffixVerdict, longVerdict, verdict, byVerdict, startFrom, startPosition}
 use Rattle.search.proofs.LoopLaws.{Loop, Faults, Turns, Stops, faults, turns, stops, all-turns, order-ind}
 
 module _ (mode : StartMode) (image : List ℕ) (leaf : ℕ) (k : CursorPlace) (buf : List ℕ) where
   abbrev pub startTurn : ℕ → Slot → Started → Started

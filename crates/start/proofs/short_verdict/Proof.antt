@@ -3,10 +3,10 @@ use Rattle.base.specs.Kit.{needs}
 use Rattle.base.specs.Pick.{pick}
 use Rattle.base.proofs.Tests.{tests}
 use Rattle.key.specs.Order.{order, then}
 use Rattle.search.specs.Helper.{byOrder}
-use Rattle.search.specs.Start.{shortVerdict}
-use Rattle.search.proofs.start.short_verdict.Statement.{statement}
-use Rattle.search.proofs.start.short_verdict.Tie as tie
+use Rattle.start.specs.Start.{shortVerdict}
+use Rattle.start.proofs.short_verdict.Statement.{statement}
+use Rattle.start.proofs.short_verdict.Tie as tie
 
 pub short-verdict-spec : {M : Type 1} → statement M
 unfolding shortVerdict byOrder then order pick

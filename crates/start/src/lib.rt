@@ -1,6 +1,5 @@
 // Where Start comes to in a leaf: with it a walk begins from its cursor on, and any walk whose cursor has more than eight bytes. (The
 // Rust's `find_initial`, without its match on the ikey alone.)
-use crate::helper;
 use cursor::cursor_key::CursorPlace;
 use cursor::range_bound::StartMode;
 use key::Ordering;
@@ -8,9 +7,10 @@ use node::leaf;
 use node::permuter;
 use node::permuter::Position;
 use node::permuter::Slot;
+use search::helper;
 ghost use Rattle.base.specs.Kit.{_≡_, _+_, _≤_};
 ghost use Rattle.node.specs.Layout.{InLeaf, InSlot};
-ghost use Rattle.search.specs.Start.{atEqual, shortVerdict, suffixVerdict, longVerdict, verdict, startPosition};
+ghost use Rattle.start.specs.Start.{atEqual, shortVerdict, suffixVerdict, longVerdict, verdict, startPosition};
 
 // What Start makes of a slot: it is passed over; the walk stands there; its layer is entered; it cannot be read.
 pub enum Verdict {

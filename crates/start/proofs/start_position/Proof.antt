@@ -1,10 +1,10 @@
 -- The search comes to the place that its definition names. The invariant: from position i on it comes to the same as the whole.
 use Rattle.base.specs.Kit.{_≡_, _≤_, _-_, sub-zero, needs}
-use Rattle.search.specs.Start.{byVerdict, startFrom, startPosition}
-use Rattle.search.proofs.Answers.{verdict-as}
-use Rattle.search.proofs.StartLaws.{start-fault, start-turn, start-stop}
-use Rattle.search.proofs.start.start_position.Statement.{statement}
-use Rattle.search.proofs.start.start_position.Tie as tie
+use Rattle.start.specs.Start.{byVerdict, startFrom, startPosition}
+use Rattle.start.proofs.Answers.{verdict-as}
+use Rattle.start.proofs.StartLaws.{start-fault, start-turn, start-stop}
+use Rattle.start.proofs.start_position.Statement.{statement}
+use Rattle.start.proofs.start_position.Tie as tie
 
 abbrev Inv-loop : tie.InvT-loop
 Inv-loop mode image leaf k buf permutation size i₀ i =

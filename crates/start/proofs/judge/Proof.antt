@@ -2,10 +2,10 @@
 use Rattle.base.specs.Kit.{needs}
 use Rattle.base.proofs.Needs.{four}
 use Rattle.base.proofs.Choice.{choices}
-use Rattle.search.specs.Start.{verdict}
-use Rattle.search.proofs.Answers.{short-as}
-use Rattle.search.proofs.start.judge.Statement.{statement}
-use Rattle.search.proofs.start.judge.Tie as tie
+use Rattle.start.specs.Start.{verdict}
+use Rattle.start.proofs.Answers.{short-as}
+use Rattle.start.proofs.judge.Statement.{statement}
+use Rattle.start.proofs.judge.Tie as tie
 
 pub judge-spec : {M : Type 1} → statement M
 unfolding verdict

@@ -1,8 +1,8 @@
 -- Each mode has its arm.
 use Rattle.base.specs.Kit.{needs}
-use Rattle.search.specs.Start.{atEqual}
-use Rattle.search.proofs.start.at_equal.Statement.{statement}
-use Rattle.search.proofs.start.at_equal.Tie as tie
+use Rattle.start.specs.Start.{atEqual}
+use Rattle.start.proofs.at_equal.Statement.{statement}
+use Rattle.start.proofs.at_equal.Tie as tie
 
 pub at-equal-spec : {M : Type 1} → statement M
 unfolding atEqual
