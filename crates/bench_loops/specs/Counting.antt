@@ -2,17 +2,15 @@
 use Rattle.base.specs.Kit.{not, List, [], ℕ, zero, suc, eqb, length}
 use Rattle.base.specs.Pick.{pick}
 use Rattle.cursor.specs.declared.range_bound.StartMode.the-variants.{Above}
+use Rattle.walk.specs.Walk.{keysOf}
 use Rattle.walk.specs.Placing.{place}
 use Rattle.scan.specs.Machine.{step}
 use Rattle.walk.specs.declared.scan_state.Walk.{Walk}
 use Rattle.walk.specs.declared.scan_state.Answer.{Answer}
-use Rattle.walk.specs.declared.scan_state.Answer.the-variants.{Key, Nothing, Declined}
 
 -- One more than the rest where a key is out; no more where none is.
 unfoldable pub countKey : Answer → ℕ → ℕ
-countKey (Key len value) rest = suc rest
-countKey Nothing rest = 0
-countKey (Declined n) rest = 0
+countKey a rest = pick (eqb (keysOf a) 0) 0 (suc rest)
 
 -- How many of the first n steps hand out a key before the first answer that is no key.
 unfoldable pub keysFrom : ℕ → Walk → List ℕ → ℕ
@@ -24,7 +22,7 @@ keysFrom (suc n) w image =
 
 -- The same of a walk above the empty cursor, unbounded, and of as many steps as the image has bytes; 0 where the placing is
 -- declined.
-unfoldable pub keysOf : List ℕ → ℕ
-keysOf image =
+unfoldable pub keysAbove : List ℕ → ℕ
+keysAbove image =
     let p = place image Above [] 0 [] in
     pick (not (eqb (p .code) 0)) 0 (keysFrom (length image) (p .walk) image)

@@ -10,7 +10,7 @@ ghost use Rattle.base.specs.Kit.{_≡_, [], length};
 ghost use Rattle.cursor.specs.declared.range_bound.StartMode.the-variants.{Above};
 ghost use Rattle.walk.specs.Placing.{place};
 ghost use Rattle.scan.specs.Loop.{keysLeft};
-ghost use Rattle.bench_loops.specs.Counting.{keysFrom, keysOf};
+ghost use Rattle.bench_loops.specs.Counting.{keysFrom, keysAbove};
 
 // A walk above the empty cursor, unbounded.
 fn place_all(image: &[u8]) -> Placed
@@ -23,7 +23,7 @@ fn place_all(image: &[u8]) -> Placed
 // where the form is 0, by the lent step otherwise. 0 where the placing is declined.
 #[no_mangle]
 pub extern "C" fn timed_walk(image: &[u8], form: u8) -> u64
-    ensures { λ r. ⌜ r ≡ keysOf (now (image .entry)) ⌝ }
+    ensures { λ r. ⌜ r ≡ keysAbove (now (image .entry)) ⌝ }
 {
     let placed = place_all(image);
     if placed.code != 0 {

@@ -8,11 +8,11 @@ use Rattle.demands.specs.Types.{RangeBound, Ended, Walk, Nothing, Declin
 use Rattle.layering.proofs.Sieve.{front}
 use Rattle.layering.proofs.Walk.{Conf, over, rest, left, pot}
 use Rattle.moves.specs.Moves.{InRange}
-use Rattle.walk.specs.Walk.{walkOk}
+use Rattle.walk.specs.Walk.{numberOf, keysOf, lenOf, valueOf, walkOk}
 use Rattle.scan.specs.Machine.{Ran, run, isEnded, ctxOf, scanOf, finished, advance, step}
 use Rattle.scan.specs.Loop.{runBy, allBy, keysAhead, keysLeft}
 use Rattle.lent.proofs.Same.{step-as}
-use Rattle.demands.specs.Demand.{Call, steps, Lent, Said, handsOut, declines, saidWith, said, movesOf, headSaid, tailOf, due}
+use Rattle.demands.specs.Demand.{Call, steps, Lent, Said, handsOut, declines, saidBy, said, movesOf, own, headSaid, tailOf, due, Foreign}
 use Rattle.demands.proofs.Relation.{resumed, Rep}
 use Rattle.demands.proofs.Run.{Came, out, end, comes}
 use Rattle.demands.proofs.Tally.{counts}
@@ -45,7 +45,7 @@ module _ (image : List ℕ) (B : RangeBound) where
   pub record Paid (c : Conf) (t : Stepped) : Type 0 where
     pub to : Conf
     pub walks : Walks (t .walk) to
-    pub head : saidWith (t .answer) t ≡ headSaid (left (admitted B) c)
+    pub head : saidBy t ≡ headSaid (left (admitted B) c)
     pub tail : left (admitted B) to ≡ tailOf (left (admitted B) c)
     pub cost : t .moves + pot to ≤ pot c
 
@@ -66,7 +66,7 @@ module _ (image : List ℕ) (B : RangeBound) where
     -- a run is over
     finishes : (w : Walk) (c : Conf) → w .«image_len» ≡ length image → w .bound ≡ B → {r : Ran}
         → Came image (B .kind) (take (B .len) (B .key)) c 0 r → Paid c (finished w r)
-    unfolding finished saidWith headSaid tailOf scanOf resumed left rest front pot
+    unfolding finished saidBy numberOf keysOf lenOf valueOf pick headSaid tailOf scanOf resumed left rest front pot
     finishes w c a b (out x c′ n s e h fit rep key) = record {
       to = c′;
       walks = record {
@@ -96,7 +96,7 @@ module _ (image : List ℕ) (B : RangeBound) where
     pays-in : (w : Walk) (c : Conf) → w .«image_len» ≡ length image → w .bound ≡ B → InRange (w .depth) (ctxOf w)
         → pot c ≤ length image → Stage w c
         → Paid c (pick (isEnded (w .state)) (record { answer = Nothing; moves = 0; walk = w }) (advance w image))
-    unfolding advance saidWith headSaid tailOf left rest front pot pick
+    unfolding advance saidBy numberOf keysOf headSaid tailOf left rest front pot pick
     pays-in w c a b fit k (ended e) =
         rw (ap isEnded e)
         (record {
@@ -137,14 +137,14 @@ module _ (image : List ℕ) (B : RangeBound) where
     -- EVERY LIST OF STEPS
     pub all-steps : (calls : List Call) → Lent image calls → (w : Walk) (c : Conf) → Walks w c
         → pot c ≤ length image
-        → (said (steps w calls) ≡ due image calls (left (admitted B) c)) × (movesOf (steps w calls) ≤ pot c)
-    unfolding Lent steps said movesOf due pick saidWith
-    all-steps [] l w c h k = (refl, omega arith)
+        → (said (steps w calls) ≡ due (own image calls) (left (admitted B) c)) × Foreign image w calls × (movesOf (steps w calls) ≤ pot c)
+    unfolding Lent steps said movesOf own due Foreign numberOf pick saidBy
+    all-steps [] l w c h k = (refl, tt, omega arith)
     all-steps (call ∷ rest) (inl e, l) w c h k =
         let q : Paid c (step w image) = pays w c h k in
         let ih = all-steps rest l (step w image .walk) (q .to) (q .walks) (omega (arith, q .cost)) in
         rw (step-as (call .form) w (call .bytes), e, eq-eqb (length image) (length image) refl)
-        (cc (q .head, q .tail, ih .0), omega (arith, q .cost, ih .1))
+        (cc (q .head, q .tail, ih .0), (λ f. absurd (f refl), ih .1), omega (arith, q .cost, ih .2))
     all-steps (call ∷ rest) (inr e, l) w c h k =
         let ih = all-steps rest l w c h k in
         rw (
@@ -152,4 +152,4 @@ module _ (image : List ℕ) (B : RangeBound) where
           other-length w (call .bytes) (λ d. e (d ∙ h .same-length)),
           ne-eqb (length (call .bytes)) (length image) e,
         )
-        (ap {B = List Said} (λ t. declines 21 ∷ t) (ih .0), omega (arith, ih .1))
+        (ap {B = List Said} (λ t. declines 21 ∷ t) (ih .0), (λ f. (refl, refl, refl), ih .1), omega (arith, ih .2))

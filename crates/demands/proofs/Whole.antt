@@ -27,7 +27,7 @@ use Rattle.layering.proofs.Walk.{Conf, seek, rest, left, pot}
 use Rattle.walk.specs.Placing.{shortState, startState, placeFault, freshWalk, place}
 use Rattle.scan.specs.Machine.{isEnded, scanOf}
 use Rattle.scan.specs.Loop.{keysLeft}
-use Rattle.demands.specs.Demand.{Call, steps, Lent, said, movesOf, due}
+use Rattle.demands.specs.Demand.{Call, steps, Lent, said, movesOf, own, due, Foreign}
 use Rattle.demands.proofs.Begin.{Begun, begin-at}
 use Rattle.demands.proofs.Steps.{admitted, Walks, going, all-steps, keys-left}
 
@@ -160,14 +160,15 @@ module _ (image : List ℕ) (b : (i : ℕ) → getD image i 0 < 256) (o : Obeys 
     -- EVERY LIST OF STEPS FROM A FRESH WALK
     pub fresh-steps : (calls : List Call) → Lent image calls
         → (said (steps (freshWalk image mode cursor kind bound) calls)
-        ≡ due image calls (rowOf image mode cursor kind bound))
+        ≡ due (own image calls) (rowOf image mode cursor kind bound))
+        × Foreign image (freshWalk image mode cursor kind bound) calls
         × (movesOf (steps (freshWalk image mode cursor kind bound) calls) ≤ limit image)
     fresh-steps calls l =
         let s =
         all-steps image (boundOf kind bound) (bound-kind kind bound (lim .kinds))
         (bound-length kind bound (lim .fits)) calls l (freshWalk image mode cursor kind bound)
         stage walks (omega (arith, few-moves, moves-fit image o)) in
-        (s .0 ∙ ap (due image calls) left-row, omega (arith, s .1, few-moves))
+        (s .0 ∙ ap (due (own image calls)) left-row, s .1, omega (arith, s .2, few-moves))
 
     -- ALL ITS MOVES IN ONE LOOP: as many keys as the row has
     pub fresh-keys : keysLeft (freshWalk image mode cursor kind bound) image

@@ -12,14 +12,14 @@ use Rattle.moves.specs.FastPath.{fastSlot, nextKey}
 use Rattle.search.proofs.Laws.{leaf-there}
 use Rattle.moves.proofs.StoredKey.{key-fits}
 use Rattle.moves.proofs.FastLaws.{fast-facts, next-place}
-use Rattle.walk.specs.Walk.{walkOk, numberOf}
+use Rattle.walk.specs.Walk.{walkOk, numberOf, answerNumbers}
 use Rattle.scan.specs.Machine.{isEnded, ctxOf, walkOf, goneNumber, step}
 use Rattle.walk.proofs.NumberLaws.{walk-fits}
 use Rattle.scan.proofs.BeginLaws.{in-range, step-advances}
 use Rattle.scan.proofs.StepLaws as step
 use Rattle.walk_record.specs.Record.{leafAt, positionAt, offsetAt, kindAt, boundLenAt, stateAt, stateOf, numbersOf, readWalk, isRecord}
 use Rattle.record_step.specs.InPlace.{numbersOk, placeOf, keyNumbers}
-use Rattle.record_step.specs.Step.{answerNumbers, StepMade}
+use Rattle.record_step.specs.Step.{StepMade}
 use Rattle.walk_record.proofs.Told.{Sized, record-told}
 use Rattle.walk_record.proofs.Inverse.{walk-inverse}
 use Rattle.record_step.proofs.Steps.{declined, taken}

@@ -1,11 +1,11 @@
 -- The ways a step over a lent record comes out, one law for each. Assumes nothing.
 use Rattle.base.specs.Kit.{_≡_, sym, _∙_, true, false, List, ℕ, arith, length, eq-eqb, ne-eqb}
 use Rattle.base.specs.Pick.{pick}
-use Rattle.walk.specs.Walk.{numberOf}
+use Rattle.walk.specs.Walk.{numberOf, answerNumbers}
 use Rattle.scan.specs.Machine.{step}
 use Rattle.record_step.specs.Types.{Walk, Stepped}
 use Rattle.walk_record.specs.Record.{isRecord, readWalk, numbersOf}
-use Rattle.record_step.specs.Step.{answerNumbers, stepNumber, left, stepNumbers, stepBuf, stepOut, StepMade}
+use Rattle.record_step.specs.Step.{stepNumber, left, stepNumbers, stepBuf, stepOut, StepMade}
 
 module _ (n b k image out : List ℕ) where
   -- a number that is not 0 leaves everything

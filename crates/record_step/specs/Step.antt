@@ -1,18 +1,12 @@
 -- What a step of a walk's record returns, and what it leaves in each slice that is lent to it.
-use Rattle.base.specs.Kit.{List, [], _∷_, _≡_, ℕ, eqb, length}
+use Rattle.base.specs.Kit.{List, _≡_, ℕ, eqb, length}
 use Rattle.base.specs.Pick.{pick}
-use Rattle.walk.specs.Walk.{numberOf}
+use Rattle.walk.specs.Walk.{numberOf, answerNumbers}
 use Rattle.scan.specs.Machine.{step}
 use Rattle.walk_record.specs.Record.{numbersOf, readWalk, isRecord}
-use Rattle.record_step.specs.Types.{Answer, Key, Nothing, Declined, Stepped}
+use Rattle.record_step.specs.Types.{Stepped}
 
--- A STEP. What it answers with: 1 for a key or 0 for none, the key's length, its value, and the moves.
-unfoldable pub answerNumbers : Answer → ℕ → List ℕ
-answerNumbers (Key len value) moves = 1 ∷ len ∷ value ∷ moves ∷ []
-answerNumbers Nothing moves = 0 ∷ 0 ∷ 0 ∷ moves ∷ []
-answerNumbers (Declined n) moves = 0 ∷ 0 ∷ 0 ∷ moves ∷ []
-
--- The step of a record's walk.
+-- A STEP of a record's walk.
 abbrev pub stepOf : List ℕ → List ℕ → List ℕ → List ℕ → Stepped
 stepOf numbers buf bound image = step (readWalk numbers buf bound) image
 

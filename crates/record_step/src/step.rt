@@ -8,6 +8,7 @@ use node::permuter::Position;
 use node::permuter::Slot;
 use scan::forward_ctx;
 use search::traversal;
+use walk::answer;
 use walk::scan_state::Answer;
 use walk::scan_state::Stepped;
 use walk::scan_state::Walk;
@@ -18,31 +19,11 @@ ghost use Rattle.base.specs.Kit.{_≡_, true, length, getD};
 ghost use Rattle.search.specs.Traversal.{leafThere};
 ghost use Rattle.moves.specs.FastPath.{fastSlot};
 ghost use Rattle.record_step.specs.Types.{At, FindNext};
-ghost use Rattle.walk.specs.Walk.{walkOk, numberOf};
+ghost use Rattle.walk.specs.Walk.{walkOk};
 ghost use Rattle.scan.specs.Machine.{step};
 ghost use Rattle.walk_record.specs.Record.{leafAt, positionAt, stateAt, isRecord};
 ghost use Rattle.record_step.specs.InPlace.{numbersOk, placeOf};
-ghost use Rattle.record_step.specs.Step.{answerNumbers, StepMade};
-
-fn answer_number(answer: Answer) -> u8
-    ensures { λ r. ⌜ r ≡ numberOf answer ⌝ }
-{
-    match answer {
-        Answer::Key { len: _, value: _ } => 0,
-        Answer::Nothing => 0,
-        Answer::Declined(n) => n,
-    }
-}
-
-fn answer_numbers(answer: Answer, moves: usize) -> [u64; 4]
-    ensures { λ r. ⌜ r ≡ answerNumbers answer moves ⌝ }
-{
-    match answer {
-        Answer::Key { len, value } => [1, len as u64, value, moves as u64],
-        Answer::Nothing => [0, 0, 0, moves as u64],
-        Answer::Declined(_) => [0, 0, 0, moves as u64],
-    }
-}
+ghost use Rattle.record_step.specs.Step.{StepMade};
 
 // A step of a walk. `tested` tells that its first move has tested its leaf's version.
 fn step_of(walk: Walk, image: &[u8], tested: bool) -> Stepped
@@ -71,12 +52,12 @@ fn step_walk(
 {
     let s = step_of(record::read_walk(numbers, buf, bound), image, tested);
     let answer = s.answer;
-    let code = answer_number(answer);
+    let code = answer::answer_number(answer);
     if code != 0 {
         return code;
     }
     record::put_moved(s.walk, numbers, buf);
-    let said = answer_numbers(answer, s.moves);
+    let said = answer::answer_numbers(answer, s.moves);
     record::copy_words(out, &said);
     0
 }
@@ -107,13 +88,13 @@ fn step_fast(
         NextKey::Out { k, value } => {
             let len = k.offset + k.len;
             in_place::put_key(numbers, k, WalkState::FindNext);
-            let said = answer_numbers(Answer::Key { len, value }, 1);
+            let said = answer::answer_numbers(Answer::Key { len, value }, 1);
             record::copy_words(out, &said);
             0
         }
         NextKey::Past(k) => {
             in_place::put_key(numbers, k, WalkState::Ended);
-            let said = answer_numbers(Answer::Nothing, 1);
+            let said = answer::answer_numbers(Answer::Nothing, 1);
             record::copy_words(out, &said);
             0
         }

@@ -3,8 +3,7 @@
 -- (demands/proofs/Tally.antt), and an accepted image has more bytes than that.
 use Rattle.base.specs.Kit.{_≡_, List, ℕ, _<_, length, getD}
 use Rattle.layering.specs.Sieve.{rowOf}
-use Rattle.verify.specs.Check.{accepted, check}
-use Rattle.verify.specs.declared.Counts.{Counts}
+use Rattle.verify.specs.Check.{numberOf, check}
 use Rattle.verify.proofs.Theorem.{accepted-obeys}
 use Rattle.walk.specs.Placing.{place}
 use Rattle.scan.specs.Loop.{keysLeft}
@@ -12,10 +11,10 @@ use Rattle.cursor.specs.declared.range_bound.StartMode.{StartMode}
 use Rattle.demands.proofs.Whole.{taken, fresh-keys}
 
 -- THE COUNT
-pub row-counted : (image : List ℕ) → ((i : ℕ) → getD image i 0 < 256) → (c : Counts) → check image ≡ accepted c
+pub row-counted : (image : List ℕ) → ((i : ℕ) → getD image i 0 < 256) → numberOf (check image) ≡ 0
     → (mode : StartMode) (cursor : List ℕ) → ((i : ℕ) → getD cursor i 0 < 256) → (kind : ℕ) (bound : List ℕ)
     → place image mode cursor kind bound .code ≡ 0
     → keysLeft (place image mode cursor kind bound .walk) image ≡ length (rowOf image mode cursor kind bound)
-row-counted image b c a mode cursor bc kind bound e =
+row-counted image b a mode cursor bc kind bound e =
     let t = taken image mode cursor kind bound e in
-    rw (t .0) (fresh-keys image b (accepted-obeys image c a .0) mode cursor bc kind bound (t .1))
+    rw (t .0) (fresh-keys image b (accepted-obeys image a .0) mode cursor bc kind bound (t .1))

@@ -3,9 +3,7 @@
 use Rattle.base.specs.Kit.{not, List, ℕ, eqb, length}
 use Rattle.layering.specs.Sieve.{rowOf}
 use Rattle.base.specs.Pick.{pick}
-use Rattle.verify.specs.Check.{check}
-use Rattle.verify.specs.declared.Checked.{Checked}
-use Rattle.verify.specs.declared.Checked.the-variants as checked
+use Rattle.verify.specs.Check.{check, numberOf as checkNumber}
 use Rattle.walk.specs.Placing.{placeFault}
 use Rattle.cursor.specs.declared.range_bound.StartMode.the-variants.{Above}
 use Rattle.survey.specs.declared.Tallied.{Tallied}
@@ -21,14 +19,10 @@ unfoldable pub countOf : Tallied → ℕ
 countOf (Counted n) = n
 countOf (Declined n) = 0
 
--- "Check's numbers, then 11, 12, 13": a placing's numbers in its order; of an accepted image 1 and 2 are not met (`later-numbers`
--- in proofs/Answers.antt). "how many keys a walk above a cursor hands out within a bound": as many as the row of demand 3 has.
-unfoldable pub tallyChecked : Checked → List ℕ → List ℕ → ℕ → List ℕ → Tallied
-tallyChecked (checked.Declined n) image cursor kind bound = Declined n
-tallyChecked (checked.Accepted leaves values layers) image cursor kind bound =
-    let fault = placeFault image cursor kind bound in
-    pick (not (eqb fault 0)) (Declined fault) (Counted (length (rowOf image Above cursor kind bound)))
-
--- THE TALLY.
+-- THE TALLY. "Check's numbers, then 11, 12, 13": a placing's numbers in its order; of an accepted image 1 and 2 are not met. "how many
+-- keys a walk above a cursor hands out within a bound": as many as the row of demand 3 has.
 unfoldable pub tally : List ℕ → List ℕ → ℕ → List ℕ → Tallied
-tally image cursor kind bound = tallyChecked (check image) image cursor kind bound
+tally image cursor kind bound =
+    let n = checkNumber (check image) in
+    let fault = placeFault image cursor kind bound in
+    pick (not (eqb n 0)) (Declined n) (pick (not (eqb fault 0)) (Declined fault) (Counted (length (rowOf image Above cursor kind bound))))

@@ -1,23 +1,20 @@
--- THE THEOREM: the check accepts an image exactly where `Obeys` holds of it, with the tree's three numbers. The tests before
--- and behind the tree are taken apart here; the tree itself is `layers-run`.
-use Rattle.base.specs.Kit.{Bool, true, false, not, false≢true, List, _≡_, refl, ap, sym, _∙_, subst, ℕ, _+_, _-_, _%_, _≤_, arith, eqb, length, eq-eqb}
+-- THE THEOREM: the check's number is 0 exactly where `Obeys` holds of the image, and then its three numbers are the tree's. The tests
+-- before and behind the tree are taken apart here; the tree itself is `layers-run`.
+use Rattle.base.specs.Kit.{Bool, true, false, not, false≢true, List, _≡_, refl, ap, sym, _∙_, subst, ℕ, _+_, _-_, _%_, _≤_, arith, eqb, length, eq-eqb, eqb-false, not-true}
 use Rattle.base.specs.Pick.{pick}
+use Rattle.base.proofs.Choice.{pick-ind}
 use Rattle.node.specs.Layout.{rootOffset, keyCount, statedLength, edition}
 use Rattle.node.specs.Heading.{lengthOk, headingFault}
-use Rattle.layering.specs.Tree.{Node, treeOf}
-use Rattle.layering.specs.Keys.{leavesN, valuesN, layersN}
+use Rattle.layering.specs.Tree.{treeOf}
 use Rattle.layering.specs.Accepted.{endN, firstN, LinkedN, Obeys}
-use Rattle.verify.specs.Types.{Counts, Checked, Declined, Progress}
-use Rattle.verify.specs.Check.{accepted, countsOf, layerC, begin, finish, check}
+use Rattle.verify.specs.Types.{Counts, Checked, Accepted, Declined, Progress}
+use Rattle.verify.specs.Check.{numberOf, countsOf, accepted, layerC, begin, finish, check}
+use Rattle.verify.specs.Acceptance.{treeCounts}
 use Rattle.verify.proofs.Going.{Says, says-leb, says-eqb, says-and, Runs}
 use Rattle.verify.proofs.Places.{lastN, linked-lastN}
 use Rattle.verify.proofs.Sound.{added, afterN, same-counts, SoundN}
 use Rattle.verify.proofs.Slots.{SoundLayer}
 use Rattle.verify.proofs.Subtrees.{layers-run}
-
--- A tree's three numbers.
-unfoldable pub treeCounts : Node → Counts
-treeCounts n = record { leaves = leavesN n; «value_slots» = valuesN n; «sub_layers» = layersN n }
 
 -- THE HEADING, numbers 1 and 2
 record Headed (image : List ℕ) : Type 0 where
@@ -79,9 +76,9 @@ module _ (image : List ℕ) where
   unfolding afterN added treeCounts
   counted = same-counts (omega arith) (omega arith) (omega arith)
 
-  pub accepted-obeys : (c : Counts) → check image ≡ accepted c → Obeys image × (c ≡ treeCounts (treeOf image))
+  accepts-tree : (c : Counts) → check image ≡ accepted c → Obeys image × (c ≡ treeCounts (treeOf image))
   unfolding check finish whole afterN treeCounts SoundN
-  accepted-obeys c e =
+  accepts-tree c e =
       let heading = accepts (eqb (headingFault image) 0) _ _ c e in
       let h : Headed image = says-headed image .holds (heading .0) in
       let going = accepts (eqb (whole .fault) 0) _ _ c (heading .1) in
@@ -96,9 +93,9 @@ module _ (image : List ℕ) where
       let values = says-eqb (keyCount image) (whole .counts .«value_slots») .holds (count .0) ∙ ap (λ (d : Counts). d .«value_slots») n in
       (search, same-numbers (whole .counts) c (count .1) ∙ n)
 
-  pub obeys-accepted : Obeys image → check image ≡ accepted (treeCounts (treeOf image))
+  tree-accepted : Obeys image → check image ≡ accepted (treeCounts (treeOf image))
   unfolding check pick whole afterN treeCounts SoundN
-  obeys-accepted o =
+  tree-accepted o =
       let h : Headed image = search in
       let ends : lastN (treeOf image) ≡ 0 = linked-lastN (treeOf image) 0 (o .links) in
       let links : LinkedN (lastN (treeOf image)) (treeOf image) = rw ends (o .links) in
@@ -112,9 +109,39 @@ module _ (image : List ℕ) where
       (o .count ∙ sym (ap (λ (d : Counts). d .«value_slots») c))
       ∙ ap accepted c)
 
--- THE FUNCTION. `check_image` (src/lib.rt) returns r with r ≡ check image, by its contract. So what it returns is an acceptance exactly
--- where the image obeys the rules, and then with the tree's three numbers.
+  -- no image is declined with 0
+  is-accepted : numberOf (check image) ≡ 0 → check image ≡ accepted (countsOf (check image))
+  unfolding check finish whole numberOf countsOf accepted
+  is-accepted =
+      let P : Checked → Type 0 = λ r. numberOf r ≡ 0 → r ≡ accepted (countsOf r) in
+      let no-zero : (n : ℕ) → (n ≡ 0 → ⊥) → P (Declined n) = λ n h e. absurd (h e) in
+      pick-ind P (not (eqb (headingFault image) 0)) (λ t. no-zero _ (eqb-false _ 0 (not-true _ t)))
+      (λ _. pick-ind P (not (eqb (whole .fault) 0)) (λ t. no-zero _ (eqb-false _ 0 (not-true _ t)))
+      (λ _. pick-ind P (not (eqb (whole .place + 32) (length image))) (λ _. no-zero 3 (λ e. omega arith))
+      (λ _. pick-ind P (not (eqb (keyCount image) (whole .counts .«value_slots»))) (λ _. no-zero 10 (λ e. omega arith)) (λ _ e. refl))))
+
+  pub accepted-obeys : numberOf (check image) ≡ 0 → Obeys image × (countsOf (check image) ≡ treeCounts (treeOf image))
+  accepted-obeys e = accepts-tree _ (is-accepted e)
+
+  pub obeys-accepted : Obeys image → (numberOf (check image) ≡ 0) × (countsOf (check image) ≡ treeCounts (treeOf image))
+  unfolding numberOf countsOf accepted
+  obeys-accepted o = (ap numberOf (tree-accepted o), ap countsOf (tree-accepted o))
+
+  -- what `check_image` answers where it declines is no 0
+  pub declined-number : (n : ℕ) → check image ≡ Declined n → n ≡ 0 → ⊥
+  unfolding numberOf accepted
+  declined-number n e z = let a = is-accepted (ap numberOf e ∙ z) in let y : _≡_ {A = ℕ} 0 1 = cc in omega arith
+
+-- "A declined call returns its number, zero elsewhere": of any answer.
+pub declined-zero : (r : Checked) → (numberOf r ≡ 0 → ⊥) → countsOf r ≡ record { leaves = 0; «value_slots» = 0; «sub_layers» = 0 }
+unfolding numberOf countsOf
+declined-zero (Accepted leaves values layers) h = absurd (h refl)
+declined-zero (Declined n) h = refl
+
+-- THE FUNCTION. `check_image` (src/lib.rt) returns r with r ≡ check image, by its contract. So its number is 0 exactly where the image
+-- obeys the rules, and then its three numbers are the tree's; else they are zero.
 pub check-image-accepts : (image : List ℕ) (r : Checked) → r ≡ check image
-    → ((c : Counts) → r ≡ accepted c → Obeys image × (c ≡ treeCounts (treeOf image)))
-    × (Obeys image → r ≡ accepted (treeCounts (treeOf image)))
-check-image-accepts image r e = (λ c a. accepted-obeys image c (sym e ∙ a), λ o. e ∙ obeys-accepted image o)
+    → (numberOf r ≡ 0 → Obeys image × (countsOf r ≡ treeCounts (treeOf image)))
+    × (Obeys image → (numberOf r ≡ 0) × (countsOf r ≡ treeCounts (treeOf image)))
+    × ((numberOf r ≡ 0 → ⊥) → countsOf r ≡ record { leaves = 0; «value_slots» = 0; «sub_layers» = 0 })
+check-image-accepts image r e = rw e (accepted-obeys image, obeys-accepted image, declined-zero (check image))

@@ -1,13 +1,20 @@
 -- A walk between calls, over any record: what a step's answer says, the walk that has made no move, and the range of a walk's numbers
 -- (01, "Place a walk", "Step a walk").
-use Rattle.base.specs.Kit.{Bool, _&&_, ℕ, _+_, _*_, leb, eqb, replicate}
+use Rattle.base.specs.Kit.{Bool, _&&_, List, [], _∷_, ℕ, _+_, _*_, leb, eqb, replicate}
 use Rattle.walk.specs.Types.{CursorKey, RangeBound, StartMode, Above, LayerContext, WalkState, Ended, Walk, Answer, Key, Nothing, Declined}
 
--- 01's number of an answer, 0 where the step was not declined, and its values: "None has key length 0 and value 0".
+-- WHAT AN ANSWER SAYS: 01's number of it, 0 where the step was not declined; how many keys are out, one or none; the key's length and its
+-- value: "None has key length 0 and value 0", and a declined call "returns its number, zero elsewhere". Every promise about an answer is
+-- made by these four.
 unfoldable pub numberOf : Answer → ℕ
 numberOf (Key len value) = 0
 numberOf Nothing = 0
 numberOf (Declined n) = n
+
+unfoldable pub keysOf : Answer → ℕ
+keysOf (Key len value) = 1
+keysOf Nothing = 0
+keysOf (Declined n) = 0
 
 unfoldable pub lenOf : Answer → ℕ
 lenOf (Key len value) = len
@@ -18,6 +25,10 @@ unfoldable pub valueOf : Answer → ℕ
 valueOf (Key len value) = value
 valueOf Nothing = 0
 valueOf (Declined n) = 0
+
+-- The last three with the moves, as they cross to C.
+unfoldable pub answerNumbers : Answer → ℕ → List ℕ
+answerNumbers a moves = keysOf a ∷ lenOf a ∷ valueOf a ∷ moves ∷ []
 
 -- A WALK THAT HAS MADE NO MOVE.
 abbrev pub emptyContext : LayerContext

@@ -1,7 +1,8 @@
-// A walk between calls (the Rust's scan_state.rs): its record, its placing, and the test of its numbers.
+// A walk between calls (the Rust's scan_state.rs): its record, its placing, the test of its numbers, and what a step's answer says.
 //
-// Interface: `placing::place` and `placing::place_short`, which take anything, the types of scan_state, and `walk_ok::is_walk_ok`.
-// None has a `requires`.
+// Interface: `placing::place` and `placing::place_short`, which take anything, the types of scan_state, `walk_ok::is_walk_ok`, and
+// answer's two functions. None has a `requires`.
+pub mod answer;
 pub mod placing;
 pub mod scan_state;
 pub mod walk_ok;

@@ -16,8 +16,8 @@ pub record Entry : Type 0 where
   pub value : ℕ
 
 -- A key of at most eight bytes that ends in its layer, live or dead; and a layer, whose root is at an offset.
-unfoldable pub station : List ℕ → ℕ → Entry
-station key value = record { ikey = ikeyOf key; keylenx = length key; live = true; value = value }
+unfoldable pub entry : List ℕ → ℕ → Entry
+entry key value = record { ikey = ikeyOf key; keylenx = length key; live = true; value = value }
 
 unfoldable pub dead : List ℕ → ℕ → Entry
 dead key value = record { ikey = ikeyOf key; keylenx = length key; live = false; value = value }

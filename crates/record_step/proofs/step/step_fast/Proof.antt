@@ -10,7 +10,7 @@ use Rattle.record_step.proofs.in_place.place_of.Reads as place-of-reads
 use Rattle.key.proofs.part_of.Reads as part-of-reads
 use Rattle.moves.proofs.fast_path.hand_out.Reads as hand-out-reads
 use Rattle.record_step.proofs.in_place.put_key.Reads as put-key-reads
-use Rattle.record_step.proofs.step.answer_numbers.Reads as answer-numbers-reads
+use Rattle.walk.proofs.answer.answer_numbers.Reads as answer-numbers-reads
 use Rattle.walk_record.proofs.record.copy_words.Reads as copy-words-reads
 
 abbrev Readings : lts.Claims

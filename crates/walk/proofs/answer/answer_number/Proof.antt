@@ -1,8 +1,8 @@
 -- `answer_number` meets its contract: each answer has its arm. Assumes nothing.
 use Rattle.walk.specs.Walk.{numberOf}
 use Rattle.base.specs.Kit.{needs}
-use Rattle.record_step.proofs.step.answer_number.Statement.{statement}
-use Rattle.record_step.proofs.step.answer_number.Tie as tie
+use Rattle.walk.proofs.answer.answer_number.Statement.{statement}
+use Rattle.walk.proofs.answer.answer_number.Tie as tie
 
 returns : tie.Need-returns
 unfolding numberOf

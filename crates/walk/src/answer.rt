@@ -1,0 +1,26 @@
+// What a step's answer says, as numbers (01: "a definition gives this paper's number and values for each of its cases").
+use crate::scan_state::Answer;
+ghost use Rattle.base.specs.Kit.{_≡_};
+ghost use Rattle.walk.specs.Walk.{numberOf, answerNumbers};
+
+// Its number, 0 where the step was not declined.
+pub fn answer_number(answer: Answer) -> u8
+    ensures { λ r. ⌜ r ≡ numberOf answer ⌝ }
+{
+    match answer {
+        Answer::Key { len: _, value: _ } => 0,
+        Answer::Nothing => 0,
+        Answer::Declined(n) => n,
+    }
+}
+
+// Its keys, key length and value, and the moves.
+pub fn answer_numbers(answer: Answer, moves: usize) -> [u64; 4]
+    ensures { λ r. ⌜ r ≡ answerNumbers answer moves ⌝ }
+{
+    match answer {
+        Answer::Key { len, value } => [1, len as u64, value, moves as u64],
+        Answer::Nothing => [0, 0, 0, moves as u64],
+        Answer::Declined(_) => [0, 0, 0, moves as u64],
+    }
+}
