@@ -1,4 +1,4 @@
--- Laws of `pick`. Assumes nothing.
+-- Laws of `pick`.
 use Rattle.base.specs.Kit.{_≡_, refl, sym, _∙_, Bool, true, false, not, ℕ, _≤_, _<_, leb, eqb, not-true, not-false, le-leb, lt-leb, eq-eqb, ne-eqb}
 use Rattle.base.specs.Pick.{pick}
 

@@ -1,4 +1,4 @@
--- What is left of a count, for loops whose definition recurses on it. Assumes nothing.
+-- What is left of a count, for loops whose definition recurses on it.
 use Rattle.base.specs.Kit.{_≡_, ℕ, _+_, _-_, _<_, suc, arith}
 
 -- one more turn: something is left, and a turn takes one of it

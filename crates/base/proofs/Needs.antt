@@ -1,5 +1,5 @@
 -- A function's next needs, answered at once: `four f a` hands f the four parts of a, so that one `search needs` answers four needs of a
--- `tie.spec`. Assumes nothing.
+-- `tie.spec`.
 
 pub three : {A B C : Type 0} {R : Type 2} → (A → B → C → R) → A × B × C → R
 three f (a, b, c) = f a b c

@@ -1,5 +1,4 @@
 -- The counting loops: their invariant, and what each way through a turn says of it; and what the placing's number decides.
--- Assumes nothing.
 use Rattle.base.specs.Kit.{_≡_, refl, _∙_, List, [], ℕ, suc, _+_, _-_, _≤_, _<_, sub-zero, zero-add, arith, length, eq-eqb, ne-eqb}
 use Rattle.base.specs.Pick.{pick}
 use Rattle.base.proofs.Count.{left-more}

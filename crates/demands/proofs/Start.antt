@@ -35,7 +35,7 @@ use Rattle.demands.proofs.Sound.{SoundN, SoundS, layer-of, behind-value
 use Rattle.demands.proofs.Reach.{reachN}
 use Rattle.demands.proofs.Read.{Lands, routeN-lands, rowS}
 use Rattle.demands.proofs.Place.{next-ready}
-use Rattle.demands.proofs.Verdict.{Says, passes, stands, Wide, SaysSub, passes-sub, stands-sub, enters-sub, past-low, past-high, val-says, sub-says}
+use Rattle.demands.proofs.Verdict.{Judged, passes, stands, Wide, SaysSub, passes-sub, stands-sub, enters-sub, past-low, past-high, val-says, sub-says}
 
 -- what the layers above have of both keys does not count
 past-prefix : (mode : StartMode) (p y a : List ℕ) → past mode (p ++ y) (p ++ a) ≡ past mode y a
@@ -199,14 +199,14 @@ module _ (mode : StartMode) (X p y : List ℕ) (whole : X ≡ p ++ y) (by : Byte
       begins (value f t) {i = i} (suc m) low g e a h =
           past-slot image l ok (Begins (flatS (value f t) r)) i (omega arith) _
           (go
-          (subst (λ (q : List ℕ). Says y q mode (verdict mode image l k buf (slotIn image l i))) (sym (d .0 .part))
+          (subst (λ (q : List ℕ). Judged y q mode (verdict mode image l k buf (slotIn image l i))) (sym (d .0 .part))
           (val-says image l ok k buf y by ek el rest mode wide i (d .0 .used) depth (d .0 .kind) (d .0 .real) eo))
           (begins t m _ (behind-value image g) (omega arith) (a .2) h))
         where
           d : At image depth l i (flatS (value f t) r)
           d = rowS image (value f t) r g ar
 
-          go : {v : Verdict} → Says y (ownBytes f) mode v → {o : Started} → Begins (flatS t r) o
+          go : {v : Verdict} → Judged y (ownBytes f) mode v → {o : Started} → Begins (flatS t r) o
               → Begins (flatS (value f t) r) (byVerdict v i (slotIn image l i) o)
           go (passes n) ih = begins-on (val-out (ownBytes f) (f .live) (f .value) (flatS t r) n) (omega arith) ih
           go (stands n w) ih =
@@ -352,7 +352,7 @@ module _ (image : List ℕ) (mode : StartMode) (X z : List ℕ) (wide : Wide mod
 
     -- WHERE THE START MOVES COME TO from s, in a layer whose row is `row`: `steps` of them enter a layer, and the last
     -- stands in the row `to`, with `over` waiting above it.
-    pub record Begun (s : Scan) (p : List ℕ) (st : Stack) (row : Row) : Type 0 where
+    pub record BegunIn (s : Scan) (p : List ℕ) (st : Stack) (row : Row) : Type 0 where
       pub steps : ℕ
       pub pre : List ℕ
       pub to : Row
@@ -410,7 +410,7 @@ module _ (image : List ℕ) (mode : StartMode) (X z : List ℕ) (wide : Wide mod
       stood : (j : ℕ)
           → Stood mode X p y (g .whole) (g .bytes) image (s .ctx .depth) leaf-at (routeN x n stop .1) j
           → startPosition mode image leaf-at (s .ctx .cursor) (s .buf) ≡ StartedAt (position j)
-          → Begun s p st (flatN n stop)
+          → BegunIn s p st (flatN n stop)
       unfolding Nexts arrived leaf-at
       stood j f e = record {
         steps = 0;
@@ -477,7 +477,7 @@ module _ (image : List ℕ) (mode : StartMode) (X z : List ℕ) (wide : Wide mod
           }
 
           went-in : startPosition mode image leaf-at (s .ctx .cursor) (s .buf) ≡ StartedEnter (slotIn image leaf-at j)
-              → Begun inside (p ++ f .k) (frame p (f .behind) st) (flatN (f .node) stop) → Begun s p st (flatN n stop)
+              → BegunIn inside (p ++ f .k) (frame p (f .behind) st) (flatN (f .node) stop) → BegunIn s p st (flatN n stop)
           unfolding Nexts above climb inside fieldsAt
           went-in e b = record {
             steps = suc (b .steps);
@@ -501,19 +501,19 @@ module _ (image : List ℕ) (mode : StartMode) (X z : List ℕ) (wide : Wide mod
 
       -- ONE LAYER
       one-layer : ((t : Scan) (p′ : List ℕ) (st′ : Stack) (n′ : Node) → 8 < length y → Starting t p′ (drop 8 y) st′ n′
-          → Begun t p′ st′ (flatN n′ stop)) → Begun s p st (flatN n stop)
+          → BegunIn t p′ st′ (flatN n′ stop)) → BegunIn s p st (flatN n stop)
       one-layer ih = go refl found
         where
           go : {o : Started} → startPosition mode image leaf-at (s .ctx .cursor) (s .buf) ≡ o
               → Begins mode X p y (g .whole) (g .bytes) image (s .ctx .depth) leaf-at (routeN x n stop .1) o
-              → Begun s p st (flatN n stop)
+              → BegunIn s p st (flatN n stop)
           go e (stands-at j f) = stood j f e
           go e (enters-at j f) =
               went-in j f e (ih (inside j f) (p ++ f .k) (frame p (f .behind) st) (f .node) (f .long) (starting j f))
 
     -- ALL START MOVES: each layer entered takes eight bytes of the cursor.
     pub begins-all : (f : ℕ) (s : Scan) (p y : List ℕ) (st : Stack) (n : Node) → Starting s p y st n
-        → length y ≤ 8 * f + 8 → Begun s p st (flatN n stop)
+        → length y ≤ 8 * f + 8 → BegunIn s p st (flatN n stop)
     begins-all zero s p y st n g h = one-layer s p y st n g (λ t p′ st′ n′ w r. absurd (omega arith))
     begins-all (suc f) s p y st n g h =
         one-layer s p y st n g

@@ -6,7 +6,7 @@ use Rattle.base.specs.Pick.{pick}
 use Rattle.cursor.specs.RangeBound.{contains}
 use Rattle.layering.specs.Keys.{Pair}
 use Rattle.layering.proofs.Sieve.{front}
-use Rattle.layering.proofs.Walk.{Conf, rest, left, pot, Moved as MovedRow, emits, quiet, moved as moved-row, falls}
+use Rattle.layering.proofs.Walk.{Conf, rest, left, pot, MovedRow, emits, quiet, moved as moved-row, falls}
 use Rattle.scan.specs.Machine.{Scan, Moved}
 use Rattle.scan.specs.Loop.{counted, afterBy, runBy}
 use Rattle.demands.proofs.Relation.{Rep, Follows, goes-on, gives, ends}

@@ -25,17 +25,17 @@ use Rattle.demands.proofs.Leaf.{usedIn, ikeyIn, keylenxIn, LeafOk}
 -- A START by byte order.
 module _ (y a : List ℕ) where
   -- what a start's verdict on a value slot with the key a says
-  pub data Says (mode : StartMode) : Verdict → Type 0 where
-    passes : past mode y a ≡ false → Says mode Pass
-    stands : past mode y a ≡ true → rank y ≤ rank a → Says mode Stand
+  pub data Judged (mode : StartMode) : Verdict → Type 0 where
+    passes : past mode y a ≡ false → Judged mode Pass
+    stands : past mode y a ≡ true → rank y ≤ rank a → Judged mode Stand
 
-  at-equal : (mode : StartMode) → byteOrder y a ≡ Equal → rank y ≤ rank a → Says mode (atEqual mode)
+  at-equal : (mode : StartMode) → byteOrder y a ≡ Equal → rank y ≤ rank a → Judged mode (atEqual mode)
   unfolding atEqual past isAbove isFrom isLess isNotGreater
   at-equal Above e h = passes (rw e)
   at-equal From e h = stands (rw e) h
 
   by-order : (mode : StartMode) (u v : List ℕ) {o : Ordering} → CmpB u v o → byteOrder y a ≡ byteOrder v u
-      → rank y ≤ rank a → Says mode (byOrder o Pass (atEqual mode) Stand)
+      → rank y ≤ rank a → Judged mode (byOrder o Pass (atEqual mode) Stand)
   unfolding byOrder
   by-order mode u v (b-lt l) e h = passes (past-greater y a mode (e ∙ lex-gt l))
   by-order mode u v (b-eq d) e h = at-equal mode (e ∙ ap (byteOrder v) d ∙ cmp-refl v) h
@@ -49,10 +49,10 @@ module _ (y a : List ℕ) where
     pub past-high : (mode : StartMode) → rank y < rank a → past mode y a ≡ true
     past-high mode h = past-less y a mode (lex-cmp (rank-lt y a by ba h))
 
-    low : (mode : StartMode) → rank a < rank y → Says mode Pass
+    low : (mode : StartMode) → rank a < rank y → Judged mode Pass
     low mode h = passes (past-low mode h)
 
-    high : (mode : StartMode) → rank y < rank a → Says mode Stand
+    high : (mode : StartMode) → rank y < rank a → Judged mode Stand
     high mode h = stands (past-high mode h) (omega arith)
 
 -- The whole cursor has n bytes: mode above starts with Start only past eight.
@@ -85,7 +85,7 @@ module _ (image : List ℕ) (l : ℕ) (ok : LeafOk image l) (k : CursorPlace) (b
 
     -- the cursor's own key
     same : (mode : StartMode) → ikeyIn image l i ≡ k .ikey → keylenxIn image l i ≡ k .len → length y ≤ 8
-        → Says y a mode (atEqual mode)
+        → Judged y a mode (atEqual mode)
     unfolding slotRank rank
     same mode q d h =
         let e : y ≡ a = rank-eq-short y a by ba (omega (arith, ra)) h in
@@ -93,7 +93,7 @@ module _ (image : List ℕ) (l : ℕ) (ok : LeafOk image l) (k : CursorPlace) (b
 
     -- a suffix against the cursor's rest
     by-suffix : 8 < length y → HasSuffix depth (fieldsAt image l i) → ikeyIn image l i ≡ k .ikey
-        → Says y a mode (suffixVerdict mode image l k buf (slotIn image l i))
+        → Judged y a mode (suffixVerdict mode image l k buf (slotIn image l i))
     unfolding suffixVerdict suffixBytes fieldsAt slotRank rank a ownBytes pick
     by-suffix h t q =
         let f : Fields = fieldsAt image l i in
@@ -110,29 +110,29 @@ module _ (image : List ℕ) (l : ℕ) (ok : LeafOk image l) (k : CursorPlace) (b
         (omega (arith, ra, t .long)))
 
     -- with at most eight bytes left
-    val-short : length y ≤ 8 → Says y a mode (shortVerdict mode k (ikeyIn image l i) (keylenxIn image l i))
+    val-short : length y ≤ 8 → Judged y a mode (shortVerdict mode k (ikeyIn image l i) (keylenxIn image l i))
     unfolding shortVerdict byOrder then slotRank rank Wide pick atEqual
     val-short h = go mode wide (cmp (ikeyIn image l i) (k .ikey)) (cmp (keylenxIn image l i) (k .len))
       where
         go : (mode : StartMode) → Wide mode (k .offset + k .len) → {o u : Ordering}
             → Cmp (ikeyIn image l i) (k .ikey) o → Cmp (keylenxIn image l i) (k .len) u
-            → Says y a mode (byOrder (then o u) Pass (pick (ltb 8 (k .offset + k .len)) (atEqual mode) Stand) Stand)
+            → Judged y a mode (byOrder (then o u) Pass (pick (ltb 8 (k .offset + k .len)) (atEqual mode) Stand) Stand)
         go mode w (is-lt q) d = low y a by ba mode (omega (arith, ra))
         go mode w (is-gt q) d = high y a by ba mode (omega (arith, ra))
         go mode w (is-eq q) (is-lt d) = low y a by ba mode (omega (arith, ra))
         go mode w (is-eq q) (is-gt d) = high y a by ba mode (omega (arith, ra))
         go Above w (is-eq q) (is-eq d) = rw (lt-ltb 8 (k .offset + k .len) w) (same Above q d h)
         go From w (is-eq q) (is-eq d) =
-            pick-ind (Says y a From) (ltb 8 (k .offset + k .len)) (λ t. same From q d h) (λ t. same From q d h)
+            pick-ind (Judged y a From) (ltb 8 (k .offset + k .len)) (λ t. same From q d h) (λ t. same From q d h)
 
     -- with more left
-    val-long : 8 < length y → Says y a mode (longVerdict mode image l k buf (slotIn image l i))
+    val-long : 8 < length y → Judged y a mode (longVerdict mode image l k buf (slotIn image l i))
     unfolding longVerdict byOrder slotRank rank fieldsAt pick
     val-long h = go kind (cmp (ikeyIn image l i) (k .ikey))
       where
         go : EndsHere depth (fieldsAt image l i) ⊎ HasSuffix depth (fieldsAt image l i) → {o : Ordering}
             → Cmp (ikeyIn image l i) (k .ikey) o
-            → Says y a mode
+            → Judged y a mode
             (byOrder o Pass
             (pick (leb (keylenxIn image l i) 8) Pass
             (pick (leb 128 (keylenxIn image l i)) Enter
@@ -150,10 +150,10 @@ module _ (image : List ℕ) (l : ℕ) (ok : LeafOk image l) (k : CursorPlace) (b
             )
             (by-suffix h t q)
 
-    pub val-says : Says y (ownBytes (fieldsAt image l i)) mode (verdict mode image l k buf (slotIn image l i))
+    pub val-says : Judged y (ownBytes (fieldsAt image l i)) mode (verdict mode image l k buf (slotIn image l i))
     unfolding verdict fieldsAt hasSuffix a
     val-says =
-        pick-ind (Says y a mode) (hasSuffix k) (λ t. val-long (omega (arith, ltb-true 8 (k .len) t)))
+        pick-ind (Judged y a mode) (hasSuffix k) (λ t. val-long (omega (arith, ltb-true 8 (k .len) t)))
         (λ t. val-short (omega (arith, ltb-false 8 (k .len) t)))
 
   -- A LAYER SLOT

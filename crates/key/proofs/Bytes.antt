@@ -1,5 +1,5 @@
 -- Byte strings: what is made of bytes by joining, cutting and filling, and what is written out of a number, has bytes
--- only. Assumes nothing.
+-- only.
 use Rattle.base.specs.Kit.{List, [], _∷_, _++_, ℕ, zero, suc, _<_, arith, getD, take, drop}
 use Rattle.key.specs.Ikey.{digits, ikeyBytes}
 use Rattle.key.specs.Part.{part}

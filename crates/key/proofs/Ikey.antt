@@ -1,6 +1,6 @@
 -- Laws of the ikey. `split` says what the first n bytes, as a number, tell of the byte order of two strings; `rank`
 -- puts ikey and length into one number, so that comparing (ikey, length) is byte order by plain arithmetic. And
--- `be` and `digits` are inverse to one another. Assumes nothing.
+-- `be` and `digits` are inverse to one another.
 use Rattle.base.specs.Kit.{_≡_, refl, ap, sym, _∙_, List, [], _∷_, _++_, ℕ, zero, suc, _+_, _*_, _/_, _%_, _^_, _-_, _≤_, _<_, min, mul-le-mul-right, one-le-pow, pow-suc, pow-succ', mul-add-div-right, div-eq-of-lt, mod-eq-of-lt, arith, mod-mul, length, take, drop, getD, replicate, take-append-drop, length-append, length-replicate, take-at, take-all, take-append-seam}
 use Rattle.key.specs.Order.{byteOrder}
 use Rattle.key.specs.declared.Ordering.{Ordering}

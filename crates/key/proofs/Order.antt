@@ -1,5 +1,5 @@
 -- Laws of plain byte order: `cmp` and `cmpb` say what each answer of `order` and `byteOrder` means, and `Lex`, the
--- relation that proofs take apart, is a strict order that `byteOrder` decides. Assumes nothing.
+-- relation that proofs take apart, is a strict order that `byteOrder` decides.
 use Rattle.base.specs.Kit.{_≡_, refl, sym, _∙_, subst, List, [], _∷_, _++_, ℕ, _≤_, _<_, arith, ltb, ltb-true, ltb-false}
 use Rattle.base.specs.Pick.{pick}
 use Rattle.base.proofs.Choice.{pick-ind}

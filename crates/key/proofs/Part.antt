@@ -1,4 +1,4 @@
--- The buffer of 256 bytes: what a copy into zeroes comes to. Assumes nothing.
+-- The buffer of 256 bytes: what a copy into zeroes comes to.
 use Rattle.base.specs.Kit.{_≡_, List, ℕ, zero, suc, _-_, zero-add, zero-sub, sub-zero, suc-sub-suc, length, drop, replicate, paste, take-length}
 use Rattle.key.specs.Part.{padded}
 

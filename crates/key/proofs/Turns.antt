@@ -1,5 +1,5 @@
 -- What one turn of a loop of this crate adds: byte order from index i on, one byte at a time, and the number that the first n
--- bytes make, one byte more. Assumes nothing.
+-- bytes make, one byte more.
 use Rattle.base.specs.Kit.{_≡_, ap, List, [], _∷_, ℕ, zero, suc, _+_, _*_, _^_, _≤_, _<_, pow-le-pow-right, pow-suc, mul-assoc, add-one, arith, length, getD, drop, drop-of-length-le, drop-cons}
 use Rattle.key.specs.Ikey.{be}
 use Rattle.key.specs.Order.{order, then, byteOrder}

@@ -1,4 +1,4 @@
--- The row that a walk is asked for: its starts by byte order, that it ascends, and that it goes by the live pairs alone. Assumes nothing.
+-- The row that a walk is asked for: its starts by byte order, that it ascends, and that it goes by the live pairs alone.
 use Rattle.base.specs.Kit.{_≡_, ap, true, false, List, ℕ, _<_, getD, Bool, [], _∷_}
 use Rattle.base.proofs.Choice.{pick-ind}
 use Rattle.key.specs.Order.{byteOrder}

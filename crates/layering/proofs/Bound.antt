@@ -1,4 +1,4 @@
--- What lies past a key that a bound does not admit is not admitted either. Assumes nothing.
+-- What lies past a key that a bound does not admit is not admitted either.
 use Rattle.base.specs.Kit.{_≡_, List, Bool, true, false, true≢false, ℕ, eqb}
 use Rattle.base.specs.Pick.{pick}
 use Rattle.key.specs.Order.{byteOrder}

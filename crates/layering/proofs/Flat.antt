@@ -1,5 +1,5 @@
 -- The row of a tree: its slots in the order in which a walk meets them. Proved, by recursion on the tree: the row has the
--- tree's pairs, and it weighs its leaves, its value slots and four for each of its layers. Assumes nothing.
+-- tree's pairs, and it weighs its leaves, its value slots and four for each of its layers.
 use Rattle.base.specs.Kit.{_≡_, refl, sym, List, _∷_, _++_, append-assoc, append-nil, Bool, true, false, ℕ, _+_, _*_, arith}
 use Rattle.base.specs.Pick.{pick}
 use Rattle.key.specs.Ikey.{ikeyBytes}

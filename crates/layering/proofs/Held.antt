@@ -1,5 +1,5 @@
 -- That an image holds a tree, place by place: what stands in the tree is what the image says there. Proved: an image
--- holds the tree that `treeOf` reads from it, by recursion on how it is read. Assumes nothing.
+-- holds the tree that `treeOf` reads from it, by recursion on how it is read.
 use Rattle.base.specs.Kit.{_≡_, refl, true, false, List, ℕ, zero, suc, _+_, _≤_, _<_, arith, leb, leb-true, leb-false}
 use Rattle.base.proofs.Choice.{pick-ind}
 use Rattle.node.specs.Version.{isLeaf}

@@ -1,6 +1,6 @@
 -- A layer as a walk meets it: one row of slots, with a mark where the next leaf begins. Proved: the keys of a row whose
 -- slots ascend by rank ascend in plain byte order. The idea: a key is its prefix and a part whose rank the row bounds,
--- and ranks that differ decide byte order. Assumes nothing.
+-- and ranks that differ decide byte order.
 use Rattle.base.specs.Kit.{_≡_, refl, _∙_, List, [], _∷_, _++_, append-assoc, Bool, true, false, ℕ, suc, _+_, _*_, _≤_, _<_, arith, length}
 use Rattle.key.specs.Order.{byteOrder}
 use Rattle.key.specs.Ikey.{ikeyOf}

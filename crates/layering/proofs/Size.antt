@@ -1,5 +1,5 @@
 -- The moves of a walk over an image that obeys 01's rules are fewer than its bytes: a leaf has 400 bytes and at most
--- fifteen slots, and each layer has a leaf. Assumes nothing.
+-- fifteen slots, and each layer has a leaf.
 use Rattle.base.specs.Kit.{List, ℕ, _+_, _*_, _≤_, _<_, arith, length}
 use Rattle.node.specs.Layout.{childAt, rootOffset}
 use Rattle.layering.specs.Tree.{Node, leaf, internode, beyond, Kids, last, more, Slots, none, value, layer, treeOf}

@@ -1,4 +1,4 @@
--- A step in either form is the same step: the list of demand 3 takes the lent form's steps too. Assumes nothing.
+-- A step in either form is the same step: the list of demand 3 takes the lent form's steps too.
 use Rattle.base.specs.Kit.{List, _≡_, refl, ℕ}
 use Rattle.scan.specs.Machine.{step}
 use Rattle.walk.specs.declared.scan_state.Walk.{Walk}

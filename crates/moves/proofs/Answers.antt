@@ -1,4 +1,4 @@
--- What the answers of calls say of the image and of a definition's choices, for the proofs of the moves. Assumes nothing.
+-- What the answers of calls say of the image and of a definition's choices, for the proofs of the moves.
 use Rattle.base.specs.Kit.{_≡_, ap, sym, _∙_, subst, Bool, true, false, not, List, ℕ, _+_, _≤_, _<_, arith, length, length-take, length-drop}
 use Rattle.base.proofs.Choice.{found-so}
 use Rattle.key.specs.Part.{part}

@@ -1,5 +1,5 @@
 -- A Start move with at most eight bytes left is 01's, over any bytes; in mode above, where the whole cursor has no more than eight
--- either. Assumes nothing.
+-- either.
 use Rattle.base.specs.Kit.{_≡_, refl, List, _⊎_, ℕ, _+_, _≤_}
 use Rattle.moves.specs.Types.{StartMode, From, Searched, SearchedAt as At, SearchedFault, Reached, Leaf, ReachedFault as Fault, ScanCtx}
 use Rattle.search.specs.Traversal.{reach}

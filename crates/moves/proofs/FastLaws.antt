@@ -1,5 +1,5 @@
 -- What the fast path cites: `fast-facts`, what an answer of `fastSlot` says of the image; `fast-next`, that FindNext then comes to what
--- handing out that slot's key does. Assumes nothing.
+-- handing out that slot's key does.
 use Rattle.base.specs.Kit.{_≡_, refl, _∙_, ap, Bool, true, false, and-eq-true-iff, List, ℕ, _≤_, _<_, arith, leb-true, ltb-true, lt-leb, le-ltb, leb, ltb}
 use Rattle.base.specs.Pick.{pick}
 use Rattle.node.specs.Permuter.{sizeOf}

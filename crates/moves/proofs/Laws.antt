@@ -1,5 +1,5 @@
 -- What the loop cites: `move-in-range`, a move from numbers in range leaves them in range and the buffer at its length; and the
--- same of the loop's own steps between moves. Assumes nothing.
+-- same of the loop's own steps between moves.
 use Rattle.base.specs.Kit.{_≡_, refl, sym, _∙_, subst, Bool, true, List, ℕ, _+_, _*_, _-_, _≤_, _<_, arith, leb-false, length}
 use Rattle.base.proofs.Choice.{pick-ind}
 use Rattle.node.specs.Layout.{permutationAt}

@@ -1,4 +1,4 @@
--- A key that can be stored: it fits the buffer, which keeps its length. Assumes nothing.
+-- A key that can be stored: it fits the buffer, which keeps its length.
 use Rattle.base.specs.Kit.{_≡_, true, _&&_, and-eq-true-iff, List, ℕ, _+_, _≤_, _<_, arith, leb-true, leb-false, eqb-true, lt-leb, leb, eqb, length, length-paste}
 use Rattle.base.proofs.Choice.{pick-ind}
 use Rattle.key.specs.Ikey.{digits, ikeyBytes}

@@ -1,4 +1,4 @@
--- What the length test says of an image's length. Assumes nothing.
+-- What the length test says of an image's length.
 use Rattle.base.specs.Kit.{_≡_, true, _&&_, and-eq-true-iff, ℕ, _%_, _≤_, leb, eqb, leb-true, eqb-true}
 use Rattle.node.specs.Heading.{lengthOk}
 

@@ -1,4 +1,4 @@
--- The search in an internode, one separator at a time, and the bound of what it finds. Assumes nothing.
+-- The search in an internode, one separator at a time, and the bound of what it finds.
 use Rattle.base.specs.Kit.{_≡_, List, ℕ, zero, suc, _+_, _-_, _<_, _≤_, arith, le-ltb, lt-ltb, eq-eqb, ne-eqb, ltb, eqb}
 use Rattle.base.specs.Pick.{pick}
 use Rattle.base.proofs.Choice.{pick-ind}

@@ -1,4 +1,4 @@
--- Laws of little-endian numbers: a wide one is its low part and its high part. Assumes nothing.
+-- Laws of little-endian numbers: a wide one is its low part and its high part.
 use Rattle.base.specs.Kit.{_≡_, List, ℕ, zero, suc, _+_, _*_, _^_, add-zero, zero-add, suc-add, pow-zero, pow-succ', one-mul, arith}
 use Rattle.node.specs.Le.{le, u16At, u32At, u64At}
 

@@ -1,4 +1,4 @@
--- The permutation's fields have four bits each. Assumes nothing.
+-- The permutation's fields have four bits each.
 use Rattle.base.specs.Kit.{ℕ, _<_, arith}
 use Rattle.node.specs.Permuter.{sizeOf, slotAt}
 use Rattle.node.specs.declared.permuter.Position.{Position}

@@ -1,6 +1,6 @@
 -- The readers of a leaf's fields, without a slot and with one: the walks of the two shapes of MIR, over the callee's name, the result's
 -- type and what the result is. A method's proof cites `reads-leaf` or `reads-slot`, and the plain function's above it `makes-leaf` or
--- `makes-slot`. Assumes nothing.
+-- `makes-slot`.
 use Rattle.base.specs.Kit.{refl, ℕ, List, [], _∷_}
 use mir.Syntax.{named, erased, imm, w8, w64, Name, tyInt, tyRef, field, place, copy, rvOpd, aggregate}
 use mir.Syntax.{seq, assign, call, return, local, valueLocal, Fn}

@@ -1,18 +1,10 @@
-// An internode's fields (the Rust's internode/accessors.rs), and the version word that leaves and internodes both begin
-// with, by the lent image and the record's offset.
+// An internode's fields (the Rust's internode/accessors.rs), by the lent image and the record's offset.
 use crate::le;
 ghost use Rattle.base.specs.Kit.{_≡_, _+_, _<_};
-ghost use Rattle.node.specs.Layout.{InInternode, versionAt, nkeysAt, separatorAt, childAt};
+ghost use Rattle.node.specs.Layout.{InInternode, nkeysAt, separatorAt, childAt};
 
 // An internode's bytes. No record has fewer.
 pub const INTERNODE_SIZE: usize = 256;
-
-pub fn version(image: &[u8], at: usize) -> u32
-    requires { ⌜ InInternode (now image) at ⌝ }
-    ensures { λ r. ⌜ r ≡ versionAt (now (image .entry)) at ⌝ }
-{
-    le::u32_at(image, at)
-}
 
 pub fn nkeys(image: &[u8], at: usize) -> u8
     requires { ⌜ InInternode (now image) at ⌝ }

@@ -1,6 +1,17 @@
-// A record's version word (the Rust's nodeversion.rs): the leaf bit, and the four bits that are clear at rest.
+// A record's version word (the Rust's nodeversion.rs): the leaf bit, and the four bits that are clear at rest. Leaves and internodes both
+// begin with it, and it is read before either is known: so it is no field of the leaf's reader.
+use crate::le;
 ghost use Rattle.base.specs.Kit.{_≡_, _<_};
+ghost use Rattle.node.specs.Layout.{InInternode, versionAt};
 ghost use Rattle.node.specs.Version.{bit, isLeaf, atRest};
+
+// An internode is the shorter of the two records.
+pub fn version(image: &[u8], at: usize) -> u32
+    requires { ⌜ InInternode (now image) at ⌝ }
+    ensures { λ r. ⌜ r ≡ versionAt (now (image .entry)) at ⌝ }
+{
+    le::u32_at(image, at)
+}
 
 // Whether bit k is set.
 fn has_bit(version: u32, k: u32) -> bool

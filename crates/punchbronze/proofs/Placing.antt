@@ -1,5 +1,4 @@
--- THE THEOREM `place-keeps`: the record of a placing, declined or not, is a walk's, and reads back as the placing's walk. Assumes
--- nothing.
+-- THE THEOREM `place-keeps`: the record of a placing, declined or not, is a walk's, and reads back as the placing's walk.
 use Rattle.base.specs.Kit.{_≡_, refl, true, not, List, ℕ, _≤_, arith, eqb, length, eqb-true, not-false}
 use Rattle.base.proofs.Choice.{pick-ind}
 use Rattle.key.proofs.Ikey.{padded-length}

@@ -1,4 +1,4 @@
--- A step on a record in place: the record with the next slot's key in it is the record's step. Assumes nothing.
+-- A step on a record in place: the record with the next slot's key in it is the record's step.
 use Rattle.base.specs.Kit.{_≡_, refl, sym, _∙_, ap, true, false, List, ℕ, _+_, _≤_, arith, eqb, length, getD}
 use Rattle.base.specs.Pick.{pick}
 use Rattle.base.proofs.Choice.{pick-ind}
@@ -20,7 +20,7 @@ use Rattle.scan.proofs.StepLaws as step
 use Rattle.walk_record.specs.Record.{leafAt, positionAt, offsetAt, kindAt, boundLenAt, stateAt, stateOf, numbersOf, readWalk, isRecord}
 use Rattle.record_step.specs.InPlace.{numbersOk, placeOf, keyNumbers}
 use Rattle.record_step.specs.Step.{StepMade}
-use Rattle.walk_record.proofs.Told.{Sized, record-told}
+use Rattle.walk_record.proofs.Told.{Lengths, record-told}
 use Rattle.walk_record.proofs.Inverse.{walk-inverse}
 use Rattle.record_step.proofs.Steps.{declined, taken}
 
@@ -38,8 +38,8 @@ unfolding keyNumbers numbersOf onward
 put-in w k b state e = rw e
 
 -- What the code asks of a record whose walk's next slot is fast.
-pub record Ready (n b k image : List ℕ) (slot : Slot) : Type 0 where
-  pub lengths : Sized (length n) (length b) (length k)
+pub record Steppable (n b k image : List ℕ) (slot : Slot) : Type 0 where
+  pub lengths : Lengths (length n) (length b) (length k)
   pub in-slot : InSlot image (getD n leafAt 0) slot
   pub offset-fits : getD n offsetAt 0 ≤ 248
   pub storable : isStorable image (getD n leafAt 0) slot (getD n offsetAt 0) ≡ true
@@ -68,7 +68,7 @@ module _ (n b k image : List ℕ) (is : isRecord n b k ≡ true) (ok : numbersOk
   offset-low = omega (arith, in-numbers .place, in-numbers .deep)
 
   module _ (there : leafThere image (getD n leafAt 0) ≡ true) (slot : Slot) (e : fastSlot image (getD n leafAt 0) (record { 0 = getD n positionAt 0 }) (placeOf n) ≡ At slot) where
-    pub ready : Ready n b k image slot
+    pub ready : Steppable n b k image slot
     unfolding readWalk
     ready =
         let f = fast-facts _ _ _ _ _ e in

@@ -1,5 +1,5 @@
 -- THE THEOREM `step-keeps`: after a step of a record's walk the record, with the bound that it had, is again a walk's, and reads back
--- as the walk after the step. Every move keeps the lengths of buffer and stack, and no step changes the bound. Assumes nothing.
+-- as the walk after the step. Every move keeps the lengths of buffer and stack, and no step changes the bound.
 use Rattle.base.specs.Kit.{_≡_, refl, ap, subst, sym, Bool, true, false, not, List, ℕ, zero, suc, _+_, _<_, arith, eqb, length, length-set, take, eqb-true, eqb-false, not-false}
 use Rattle.base.proofs.Choice.{pick-ind}
 use Rattle.record_step.specs.Types.{RangeBound, ScanState, Up, ScanCtx, Outcome, Continue, Push, Emit, Exhausted, Fault, LayerContext, Walk, Answer, Key, Nothing, Declined, Stepped}

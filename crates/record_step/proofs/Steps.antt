@@ -1,4 +1,4 @@
--- The ways a step over a lent record comes out, one law for each. Assumes nothing.
+-- The ways a step over a lent record comes out, one law for each.
 use Rattle.base.specs.Kit.{_≡_, sym, _∙_, true, false, List, ℕ, arith, length, eq-eqb, ne-eqb}
 use Rattle.base.specs.Pick.{pick}
 use Rattle.walk.specs.Walk.{numberOf, answerNumbers}

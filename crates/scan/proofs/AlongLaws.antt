@@ -1,5 +1,4 @@
--- The moves along a leaf: each is a move of the machine that hands out a key, so that what is left to do stays what it was. Assumes
--- nothing.
+-- The moves along a leaf: each is a move of the machine that hands out a key, so that what is left to do stays what it was.
 use Rattle.base.specs.Kit.{_≡_, refl, sym, _∙_, ap, true, false, false≢true, List, ℕ, _+_, _-_, _≤_, _<_, arith, length}
 use Rattle.base.specs.Pick.{pick}
 use Rattle.scan.specs.Types.{Slot, CursorPlace, ScanCtx, At, Out, NextKeyPast as PastBound, LayerContext, Slow, LeafEndPast as Past, LeafEndFault as Gone, Spent}

@@ -1,5 +1,5 @@
 -- Where a step begins: a walk that passes the test of its numbers has them in range before its first move; and what a step comes to by
--- that test and by the walk's state. Assumes nothing.
+-- that test and by the walk's state.
 use Rattle.base.specs.Kit.{_≡_, true, false, List, ℕ, length}
 use Rattle.base.specs.Pick.{pick}
 use Rattle.scan.specs.Types.{ScanCtx, Walk, Nothing, Declined, StartMode, WalkState, WalkStateStart as Start, WalkStateRetry as Retry, WalkStateFindNext as FindNext, Ended}

@@ -1,5 +1,5 @@
 -- "Up to eight bytes nothing changes" (02 [1]), over every image and every walk record: a placing begins as 01 has it, and the Start
--- move goes by 01's rule, which has its own definition (moves/specs/Start01.antt). Assumes nothing.
+-- move goes by 01's rule, which has its own definition (moves/specs/Start01.antt).
 use Rattle.base.specs.Kit.{_≡_, ap, _∙_, sym, subst, List, _⊎_, inr, ℕ, _+_, _≤_, arith, length, le-ltb, eq-eqb}
 use Rattle.base.specs.Pick.{pick}
 use Rattle.cursor.specs.CursorKey.{fromSlice}

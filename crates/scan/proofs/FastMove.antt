@@ -1,5 +1,4 @@
 -- A move right after a key, where its leaf stands and its next slot is fast: what `hand_out` answered says what the move comes to.
--- Assumes nothing.
 use Rattle.base.specs.Kit.{_≡_, _∙_, ap, true, false, List, ℕ}
 use Rattle.base.specs.Pick.{pick}
 use Rattle.scan.specs.Types.{Slot, CursorPlace, ScanCtx, ScanState, Emit, Exhausted, OutcomeFault as Fault, At, NextKey, Out, NextKeyPast as Past, LayerContext}

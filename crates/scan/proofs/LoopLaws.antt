@@ -1,5 +1,5 @@
 -- One turn of the loop: what it holds before it, what it has made of that when it comes to its pass, and what each outcome of
--- the pass comes to. The moves that are left always come to what all of them come to. Assumes nothing.
+-- the pass comes to. The moves that are left always come to what all of them come to.
 use Rattle.base.specs.Kit.{_≡_, refl, sym, _∙_, ap, subst, Bool, true, false, false≢true, true≢false, and-eq-true-iff, List, ℕ, _+_, _-_, _≤_, _<_, arith, sub-zero, not-true, eqb-true, length}
 use Rattle.base.proofs.Choice.{pick-on, pick-off}
 use Rattle.key.specs.Part.{part}

@@ -1,5 +1,4 @@
 -- A move of the machine as the loop makes it: in Up the layer above is taken back, then one pass, then a layer that was found is entered.
--- Assumes nothing.
 use Rattle.base.specs.Kit.{_≡_, refl, sym, _∙_, ap, true, false, true≢false, false≢true, List, ℕ, eq-eqb, ne-eqb}
 use Rattle.base.specs.Pick.{pick}
 use Rattle.moves.specs.Moves.{passIn}

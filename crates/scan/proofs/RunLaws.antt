@@ -1,5 +1,4 @@
--- The loop's run, which counts as it goes: to the next key it is the machine's run, by induction on the moves that are left. Assumes
--- nothing.
+-- The loop's run, which counts as it goes: to the next key it is the machine's run, by induction on the moves that are left.
 use Rattle.base.specs.Kit.{_≡_, refl, ap, Bool, true, false, _&&_, List, ℕ, zero, suc, _+_, _-_, _<_, length}
 use Rattle.base.specs.Pick.{pick}
 use Rattle.base.proofs.Count.{left-more}

@@ -229,7 +229,7 @@ pub fn advance_no_alloc(walk: Walk, image: &[u8], begun: bool) -> Stepped
 }
 
 // How many keys the moves of a walk hand out, as many moves as the image has bytes.
-pub fn count_keys(walk: Walk, image: &[u8]) -> usize
+pub fn count_ahead(walk: Walk, image: &[u8]) -> usize
     requires { ⌜ walkOk walk (length (now image)) ≡ true ⌝ }
     ensures { λ r. ⌜ r ≡ keysAhead walk (now (image .entry)) ⌝ }
 {

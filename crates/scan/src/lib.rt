@@ -1,7 +1,7 @@
 // The steps of a walk over a resting image (the Rust's forward_ctx.rs).
 //
-// Interface: `step::step` and `step::count_keys`, which take anything and have no `requires`. The loop in forward_ctx serves them: it
-// asks what the test of the walk's numbers (21) gives.
+// Interface: `step::step`, which takes anything and has no `requires`. `step::count_keys` is the tally's loop, and the loop in forward_ctx
+// serves the step of a C record: neither is 01's, and neither is part of the interface.
 mod along_leaf;
 pub mod forward_ctx;
 mod scan_ctx;

@@ -1,4 +1,4 @@
-// Stepping a walk (01, "Step a walk"), and all its steps at once as a count: `step` and `count_keys` take anything.
+// Stepping a walk (01, "Step a walk"): `step` takes anything. And all its steps at once as a count, for the tally.
 use crate::forward_ctx;
 use crate::scan_ctx;
 use moves::context;
@@ -91,8 +91,8 @@ pub fn count_keys(walk: Walk, image: &[u8]) -> usize
     let state = walk.state;
     match state {
         WalkState::Ended => 0,
-        WalkState::Start => forward_ctx::count_keys(walk, image),
-        WalkState::Retry => forward_ctx::count_keys(walk, image),
-        WalkState::FindNext => forward_ctx::count_keys(walk, image),
+        WalkState::Start => forward_ctx::count_ahead(walk, image),
+        WalkState::Retry => forward_ctx::count_ahead(walk, image),
+        WalkState::FindNext => forward_ctx::count_ahead(walk, image),
     }
 }

@@ -1,5 +1,4 @@
 -- Choices by a number x that a call returned, and which the definition reads as a: for `search`, on the way to a return.
--- Assumes nothing.
 use Rattle.base.specs.Kit.{_≡_, Bool, true, false, List, ℕ, _+_, _≤_, _<_, arith, length}
 use Rattle.node.specs.Layout.{suffixAt}
 use Rattle.search.specs.Types.{Ordering, StoredOrder, Slot, Searched, CursorPlace}

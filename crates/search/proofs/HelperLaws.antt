@@ -1,4 +1,4 @@
--- The three searches over a leaf's positions as loops: a turn of each, and its end. Assumes nothing.
+-- The three searches over a leaf's positions as loops: a turn of each, and its end.
 use Rattle.base.specs.Kit.{refl, not, List, ℕ, eqb}
 use Rattle.base.specs.Pick.{pick}
 use Rattle.key.specs.Order.{order}

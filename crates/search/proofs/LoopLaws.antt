@@ -1,5 +1,5 @@
 -- A search over a leaf's positions, one at a time: from position i on with n left it is `from i n`, which is `stop i` where
--- none is left, `fault` at a slot of 15, and else what `turn` makes of the slot and of the rest. Assumes nothing.
+-- none is left, `fault` at a slot of 15, and else what `turn` makes of the slot and of the rest.
 use Rattle.base.specs.Kit.{_≡_, sym, _∙_, List, ℕ, zero, suc, _+_, _-_, _≤_, _<_, arith, le-leb, lt-leb, leb-false, leb}
 use Rattle.base.specs.Pick.{pick}
 use Rattle.base.proofs.Choice.{pick-ind}

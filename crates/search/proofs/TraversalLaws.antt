@@ -1,4 +1,4 @@
--- What the code's tests say of `readable`, of the kind of a record, and of the descent to a leaf. Assumes nothing.
+-- What the code's tests say of `readable`, of the kind of a record, and of the descent to a leaf.
 use Rattle.base.specs.Kit.{_≡_, refl, sym, _∙_, Bool, true, false, not, _&&_, and-eq-true-iff, List, ℕ, zero, suc, _+_, _-_, _%_, _≤_, _<_, add-one, arith, leb-true, leb-false, eqb-true, le-leb, lt-leb, eq-eqb, ne-eqb, lt-ltb, le-ltb, not-true, not-false, leb, ltb, eqb, length}
 use Rattle.base.specs.Pick.{pick}
 use Rattle.node.specs.Version.{isLeaf, atRest}

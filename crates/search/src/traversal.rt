@@ -47,7 +47,7 @@ fn record_at(image: &[u8], at: u64) -> RecordKind
     if !is_readable(image, at, 256) {
         return RecordKind::Unreadable;
     }
-    let version = internode::version(image, at as usize);
+    let version = nodeversion::version(image, at as usize);
     if !nodeversion::at_rest(version) {
         return RecordKind::Unreadable;
     }

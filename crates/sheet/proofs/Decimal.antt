@@ -1,5 +1,5 @@
 -- Decimals: their digits from the last to the first, how many there are, and what one store of a digit adds. The bound of
--- twenty digits is enough for every number below 2^64, so that it drops out of the laws. Assumes nothing.
+-- twenty digits is enough for every number below 2^64, so that it drops out of the laws.
 use Rattle.base.specs.Kit.{_≡_, sym, ap, Bool, true, false, List, [], _∷_, _++_, ℕ, zero, suc, _+_, _/_, _%_, _^_, _≤_, _<_, arith, ltb, length, set, length-append, paste, lt-ltb, le-ltb}
 use Rattle.base.specs.Pick.{pick}
 use Rattle.sheet.specs.Sheet.{decimalIn, decimal}

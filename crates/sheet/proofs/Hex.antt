@@ -1,4 +1,4 @@
--- Keys in hex: how many digits there are, and what one turn of the loop that writes them adds. Assumes nothing.
+-- Keys in hex: how many digits there are, and what one turn of the loop that writes them adds.
 use Rattle.base.specs.Kit.{_≡_, refl, _∙_, List, [], _∷_, ℕ, suc, _+_, _*_, _/_, _%_, _≤_, _<_, add-one, arith, length, getD, drop, set, length-set, length-drop, drop-of-length-le, drop-cons, paste, paste-zero}
 use Rattle.sheet.specs.Sheet.{hexDigit, hexBytes, hexKey}
 use Rattle.sheet.proofs.Paste.{paste-first}

@@ -1,4 +1,4 @@
--- Pieces written into a buffer one after the other, each whole; and a line of two pieces. Assumes nothing.
+-- Pieces written into a buffer one after the other, each whole; and a line of two pieces.
 use Rattle.base.specs.Kit.{_≡_, refl, sym, ap, _∙_, List, [], _∷_, _++_, append-assoc, ℕ, suc, _+_, _≤_, _<_, le-refl, add-one, arith, length, take, drop, set, length-append, append-snoc, take-length, take-set-le, drop-at, drop-drop, set-split, length-take-le, paste, take-paste, drop-paste, length-paste, le-leb, lt-leb}
 use Rattle.base.specs.Pick.{pick}
 use Rattle.sheet.specs.Sheet.{decimal}

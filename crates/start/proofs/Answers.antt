@@ -1,5 +1,4 @@
 -- Choices by what calls returned: for `start`, on the way to a return.
--- Assumes nothing.
 use Rattle.base.specs.Kit.{_≡_, List, ℕ, _+_, _≤_, _<_, arith, le-ltb, lt-ltb, ltb}
 use Rattle.base.specs.Pick.{pick}
 use Rattle.key.specs.Order.{order, byteOrder}

@@ -1,5 +1,5 @@
 -- "Up to eight bytes nothing changes": with at most eight bytes left, 02's search comes to where 01's rule says, over any bytes; in
--- mode above, where the whole cursor has no more than eight either. Assumes nothing.
+-- mode above, where the whole cursor has no more than eight either.
 use Rattle.base.specs.Kit.{_≡_, refl, List, _⊎_, inl, inr, true, false, ℕ, zero, suc, _+_, _≤_, arith, ltb, eqb, lt-ltb, le-ltb, eq-eqb, ne-eqb}
 use Rattle.base.specs.Pick.{pick}
 use Rattle.base.proofs.Choice.{pick-ind, pick-map}

@@ -1,5 +1,5 @@
 -- Start's search in a leaf as a loop over positions; and where it comes to: a position of the leaf's or the one past the last, or a
--- slot that is one of the fifteen, where more than eight bytes are left. Assumes nothing.
+-- slot that is one of the fifteen, where more than eight bytes are left.
 use Rattle.base.specs.Kit.{_≡_, refl, List, ℕ, _≤_, _<_, arith, ltb-true}
 use Rattle.base.proofs.Choice.{pick-ind}
 use Rattle.node.specs.Layout.{permutationAt}

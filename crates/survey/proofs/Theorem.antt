@@ -1,5 +1,5 @@
 -- THE THEOREM about the tally's number and its count: the check's number, else the placing's; and the length of demand 3's row where both are
--- 0, zero elsewhere. `tally` (src/lib.rt) equals the definition, by its contract. Assumes nothing.
+-- 0, zero elsewhere. `tally` (src/lib.rt) equals the definition, by its contract.
 use Rattle.base.specs.Kit.{_≡_, refl, not, List, ℕ, zero, suc, arith, eqb, length, ne-eqb}
 use Rattle.base.specs.Pick.{pick}
 use Rattle.layering.specs.Sieve.{rowOf}

@@ -1,5 +1,5 @@
 -- What the two functions of the cycle and `check_image` cite: what a turn of each loop comes to, and what it leaves of
--- `Bounded`. `below` is the number of layers that may lie below the one that is checked, `hi` the end of its ikeys. Assumes nothing.
+-- `Bounded`. `below` is the number of layers that may lie below the one that is checked, `hi` the end of its ikeys.
 use Rattle.base.specs.Kit.{List, ⊎-elim, _≡_, sym, subst, ap, _∙_, ℕ, zero, suc, _+_, _*_, _-_, _^_, _<_, _≤_, eq-or-lt-of-le, arith, length, eq-eqb, ne-eqb}
 use Rattle.node.specs.Permuter.{sizeOf}
 use Rattle.base.specs.Pick.{pick}

@@ -12,11 +12,11 @@ use Rattle.verify.specs.Check.{stop, demand, reachable, inOrder, passLea
 use Rattle.verify.proofs.Going.{says-eqb, says-self, runs-as, runs-to, runs-test, runs-demand, runs-then}
 use Rattle.verify.proofs.Records.{Reachable, says-reachable, says-expected, says-permutes}
 use Rattle.verify.proofs.Places.{lastN, within, alignedS}
-use Rattle.verify.proofs.Sound.{afterS, after-leaf, Ready, SoundN, SoundS, Checks}
+use Rattle.verify.proofs.Sound.{afterS, after-leaf, Underway, SoundN, SoundS, Checks}
 use Rattle.verify.proofs.Slots.{Layers, SlotsOk, slots-run}
 
 -- a sound leaf is reached
-pub leaf-reached : (image : List ℕ) (tree : ℕ → Node) (depth at lo hi size : ℕ) (p : Progress) → size ≤ 400 → Ready image p
+pub leaf-reached : (image : List ℕ) (tree : ℕ → Node) (depth at lo hi size : ℕ) (p : Progress) → size ≤ 400 → Underway image p
     → SoundN image depth lo hi p (leafAt tree image at) → Reachable image size at p
 unfolding leafAt leafHead InPostOrderN endN SoundN
 leaf-reached image tree depth at lo hi size p b r h =
@@ -42,7 +42,7 @@ module _ (image : List ℕ) (sub : ℕ → Progress → Progress) (tree : ℕ �
       Reachable image 400 at p × ((atRest (versionAt image at) ≡ true) × ((p .chained ≡ true → p .next ≡ at)
       × (IsPermutation (permutationAt image at) × (SlotsOk image depth at lo hi 0 size p slots × (at ≡ endS (p .place) slots)))))
 
-  pub leaf-run : (p : Progress) → Ready image p
+  pub leaf-run : (p : Progress) → Underway image p
       → Checks image depth lo hi (pick (not (reachable image 400 at p)) (stop 3)
       (pick (not (atRest (versionAt image at))) (stop 4) (leafC sub image depth at lo hi p))) p (leafAt tree image at)
   unfolding leafAt leafHead leafC afterS InPostOrderN endN lastN firstN ShortPathsN AscendN InRangeN LinkedN FieldsN inOrder SoundN SoundS

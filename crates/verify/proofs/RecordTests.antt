@@ -1,5 +1,5 @@
 -- Laws of a record's tests, which the proofs of its functions cite: by the version that the code has read; where a record may lie at the
--- latest; the ends of an internode's children; and the tests that go by a loop, one turn at a time. Assumes nothing.
+-- latest; the ends of an internode's children; and the tests that go by a loop, one turn at a time.
 use Rattle.base.specs.Kit.{_≡_, refl, sym, _∙_, ap, Bool, true, false, not, _&&_, and-true, and-false, and-assoc, Bool·not-not, List, ℕ, zero, suc, _+_, _-_, _<_, _≤_, leb, eqb, sub-one, add-one, arith, length, getD, set, replicate, length-set, length-replicate, getD-replicate, lt-ltb, le-ltb, eqb-true, eqb-false, add-zero, zero-add, getD-set-same, getD-set-other}
 use Rattle.base.specs.Pick.{pick}
 use Rattle.node.specs.Version.{atRest}

@@ -1,5 +1,5 @@
 -- Laws of a slot's tests, for the numbers that the code has read: zero bytes by two shifts, a suffix's length, the slot
--- before. Assumes nothing.
+-- before.
 use Rattle.base.specs.Kit.{_≡_, refl, _∙_, Bool, false, not, _&&_, List, ℕ, zero, suc, _+_, _*_, _/_, _%_, _-_, _^_, _<_, _≤_, pow-suc, mod-eq-of-lt, div-add-mod', sub-one, arith, leb, ltb, eqb, pow-add, lt-ltb, le-leb, lt-leb, eq-eqb, ne-eqb}
 use Rattle.node.specs.Permuter.{slotAt}
 use Rattle.base.specs.Pick.{pick}

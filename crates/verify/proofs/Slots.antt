@@ -11,7 +11,7 @@ use Rattle.verify.specs.Check.{stop, each, passSuffix, enterLayer, leave
 use Rattle.verify.proofs.Going.{says-leb, says-eqb, says-and, says-self, Runs, runs-as, runs-to, runs-here, runs-test, runs-demand, runs-then}
 use Rattle.verify.proofs.Fields.{value-kind, kind-value, layer-kind, kind-layer, says-before, says-range}
 use Rattle.verify.proofs.Places.{lastN, linked-lastN, Within, room-aligned, alignedN}
-use Rattle.verify.proofs.Sound.{afterN, afterS, behind, after-none, after-value, after-layer, Ready, SoundN, SoundS}
+use Rattle.verify.proofs.Sound.{afterN, afterS, behind, after-none, after-value, after-layer, Underway, SoundN, SoundS}
 
 -- The rules for a layer.
 pub record SoundLayer (image : List ℕ) (depth : ℕ) (p : Progress) (n : Node) : Type 0 where
@@ -21,7 +21,7 @@ pub record SoundLayer (image : List ℕ) (depth : ℕ) (p : Progress) (n : Node)
 -- A check of layers does what it should.
 abbrev pub Layers : List ℕ → ℕ → (ℕ → Progress → Progress) → (ℕ → Node) → Type 0
 Layers image depth sub tree =
-    (root : ℕ) (p : Progress) → Ready image p → p .chained ≡ false
+    (root : ℕ) (p : Progress) → Underway image p → p .chained ≡ false
     → Runs (sub root p) (SoundLayer image depth p (tree root)) (afterN p (tree root))
 
 -- The rules for the slots of a leaf from position i on, n of them, the first behind the slot before it.
@@ -82,11 +82,11 @@ module _ (image : List ℕ) (sub : ℕ → Progress → Progress) (tree : ℕ �
   unfolding slotC pick
   value-runs i p small = rw (lt-leb 128 (slot i .keylenx) small) (tested i (suffix-runs at (slot i) p))
 
-  layer-runs : (i : ℕ) (p : Progress) → Ready image p → 128 ≤ slot i .keylenx
+  layer-runs : (i : ℕ) (p : Progress) → Underway image p → 128 ≤ slot i .keylenx
       → Runs (slotC sub image depth at lo hi i p) (Tested i (SoundLayer image (depth + 1) (enterLayer p) (below i))) (behind p (below i))
   unfolding slotC pick layerSlotC behind afterN
   layer-runs i p r big =
-      let entered : Ready image (enterLayer p) = record { going = r .going; aligned = r .aligned; before = r .before } in
+      let entered : Underway image (enterLayer p) = record { going = r .going; aligned = r .aligned; before = r .before } in
       rw (le-leb 128 (slot i .keylenx) big) (tested i (runs-as (λ h. h .0) (λ h. (h, tt))
       (runs-then (leaveLayer p) (layers (slot i .value) (enterLayer p) entered refl) (r .going) (λ s. runs-here _))))
 
@@ -119,8 +119,8 @@ module _ (image : List ℕ) (sub : ℕ → Progress → Progress) (tree : ℕ �
   abbrev Slotted : ℕ → ℕ → Progress → Type 0
   Slotted i n p = Runs (slotsC i n p) (Sound i n p (slotsFrom tree image at i n)) (afterS p (slotsFrom tree image at i n))
 
-  module _ (in-image : at + 432 ≤ length image) (i n : ℕ) (p : Progress) (r : Ready image p)
-      (rest : (q : Progress) → Ready image q → Slotted (i + 1) n q) where
+  module _ (in-image : at + 432 ≤ length image) (i n : ℕ) (p : Progress) (r : Underway image p)
+      (rest : (q : Progress) → Underway image q → Slotted (i + 1) n q) where
     abbrev others : Slots
     others = slotsFrom tree image at (i + 1) n
 
@@ -131,7 +131,7 @@ module _ (image : List ℕ) (sub : ℕ → Progress → Progress) (tree : ℕ �
         (runs-to (after-value p (slot i) others) (runs-as to from
         (runs-then (slotsC (i + 1) n) (value-runs i p small) (r .going) (λ h. rest (passSuffix (room (slot i)) p) (ready (h .part))))))
       where
-        ready : Suffixed at (slot i) p → Ready image (passSuffix (room (slot i)) p)
+        ready : Suffixed at (slot i) p → Underway image (passSuffix (room (slot i)) p)
         ready h = record {
           going = r .going;
           aligned = omega (arith, r .aligned, room-aligned (slot i));
@@ -164,7 +164,7 @@ module _ (image : List ℕ) (sub : ℕ → Progress → Progress) (tree : ℕ �
         (runs-to (after-layer p (slot i) (below i) others) (runs-as to from
         (runs-then (slotsC (i + 1) n) (layer-runs i p r big) (r .going) (λ h. rest (behind p (below i)) (ready (h .part))))))
       where
-        ready : SoundLayer image (depth + 1) (enterLayer p) (below i) → Ready image (behind p (below i))
+        ready : SoundLayer image (depth + 1) (enterLayer p) (below i) → Underway image (behind p (below i))
         ready h = record { going = r .going; aligned = alignedN (below i) (p .place) (r .aligned); before = h .sound .before }
 
         Parts : Type 0
@@ -189,7 +189,7 @@ module _ (image : List ℕ) (sub : ℕ → Progress → Progress) (tree : ℕ �
             let fresh : false ≡ true → 0 ≡ firstN (below i) = λ e. absurd (false≢true e) in
             search
 
-  pub slots-run : at + 432 ≤ length image → (n i : ℕ) (p : Progress) → Ready image p
+  pub slots-run : at + 432 ≤ length image → (n i : ℕ) (p : Progress) → Underway image p
       → Runs (each (slotC sub image depth at lo hi) i n p) (SlotsOk image depth at lo hi i n p (slotsFrom tree image at i n))
       (afterS p (slotsFrom tree image at i n))
   unfolding each slotsFrom InPostOrderS Within endS ShortPathsS AscendS InRangeS LinkedS FieldsS SoundS

@@ -87,7 +87,7 @@ after-more p n x k =
     recount (afterK p (more n x k)) (afterK (afterN p n) k) (omega arith) (omega arith) (omega arith)
 
 -- No fault yet, at a multiple of 8 before the trailer.
-pub record Ready (image : List ℕ) (p : Progress) : Type 0 where
+pub record Underway (image : List ℕ) (p : Progress) : Type 0 where
   pub going : p .fault ≡ 0
   pub aligned : p .place % 8 ≡ 0
   pub before : p .place + 32 ≤ length image
@@ -139,7 +139,7 @@ abbrev pub Checks : List ℕ → ℕ → ℕ → ℕ → Progress → Progress �
 Checks image depth lo hi x p n = Runs x (SoundN image depth lo hi p n) (afterN p n)
 
 -- behind a subtree nothing has changed but the place
-pub ready-afterN : (image : List ℕ) (p : Progress) (n : Node) → Ready image p → endN (p .place) n + 32 ≤ length image
-    → Ready image (afterN p n)
+pub ready-afterN : (image : List ℕ) (p : Progress) (n : Node) → Underway image p → endN (p .place) n + 32 ≤ length image
+    → Underway image (afterN p n)
 unfolding afterN
 ready-afterN image p n r b = record { going = r .going; aligned = alignedN n (p .place) (r .aligned); before = b }

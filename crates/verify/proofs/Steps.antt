@@ -1,5 +1,5 @@
 -- The check, said by what its inner functions answer: a subtree by its record, a slot by its kind, a layer by its subtree;
--- and a loop over parts, one turn at a time. Assumes nothing.
+-- and a loop over parts, one turn at a time.
 use Rattle.base.specs.Kit.{_≡_, refl, true, false, _&&_, List, ℕ, zero, suc, _+_, _-_, _^_, _<_, _≤_, sub-one, arith, leb, eqb, eq-eqb, ne-eqb}
 use Rattle.base.specs.Pick.{pick}
 use Rattle.base.proofs.Choice.{pick-map, pick-inner}

@@ -14,14 +14,14 @@ use Rattle.verify.specs.Check.{stop, each, demand, passInternode, lowEnd
 use Rattle.verify.proofs.Going.{says-leb, says-eqb, says-and, says-self, Runs, runs-as, runs-to, runs-here, runs-test, runs-demand, runs-then, runs-never}
 use Rattle.verify.proofs.Records.{Reachable, Separators, says-separators, says-reachable}
 use Rattle.verify.proofs.Places.{lastN, lastK, linked-lastN, alignedK}
-use Rattle.verify.proofs.Sound.{afterN, afterK, after-more, Ready, ready-afterN, SoundN, SoundK, Checks}
+use Rattle.verify.proofs.Sound.{afterN, afterK, after-more, Underway, ready-afterN, SoundN, SoundK, Checks}
 use Rattle.verify.proofs.Slots.{Layers}
 use Rattle.verify.proofs.Leaves.{leaf-run, leaf-reached}
 
 -- A check of subtrees does what it should.
 abbrev pub Subtrees : List ℕ → ℕ → (ℕ → ℕ → ℕ → Progress → Progress) → (ℕ → Node) → Type 0
 Subtrees image depth kid tree =
-    (at lo hi : ℕ) (p : Progress) → Ready image p → Checks image depth lo hi (kid at lo hi p) p (tree at)
+    (at lo hi : ℕ) (p : Progress) → Underway image p → Checks image depth lo hi (kid at lo hi p) p (tree at)
 
 -- the separators of children in range
 separators-of : (image : List ℕ) (tree : ℕ → Node) (at lo hi n i : ℕ) → InRangeK lo hi (kidsFrom tree image at i n)
@@ -58,7 +58,7 @@ module _ (image : List ℕ) (depth : ℕ) (kid : ℕ → ℕ → ℕ → Progres
   low i = lowEnd image at lo i
 
   -- THE CHILDREN from child i on, n more behind it.
-  kids-run : (n i : ℕ) (p : Progress) → i + n ≡ nkeysAt image at → Ready image p → Separators image at (low i) hi i n
+  kids-run : (n i : ℕ) (p : Progress) → i + n ≡ nkeysAt image at → Underway image p → Separators image at (low i) hi i n
       → Runs (each childC i (suc n) p) (SoundK image depth (low i) hi p (kids i n)) (afterK p (kids i n))
   unfolding each lowEnd highEnd pick kidsFrom Separators afterK afterN InPostOrderK endK lastK firstK ShortPathsK AscendK InRangeK LinkedK FieldsK leavesK valuesK layersK SoundN SoundK
   kids-run zero i p e r b =
@@ -102,7 +102,7 @@ module _ (image : List ℕ) (depth : ℕ) (kid : ℕ → ℕ → ℕ → Progres
       ((atRest (versionAt image at) ≡ true) × (nkeysAt image at ≤ 15))
       × (Separators image at lo hi 0 (nkeysAt image at) × (SoundK image depth lo hi p kidsHere × (at ≡ endK (p .place) kidsHere)))
 
-  pub internode-run : (p : Progress) → Ready image p → Reachable image 256 at p
+  pub internode-run : (p : Progress) → Underway image p → Reachable image 256 at p
       → Checks image depth lo hi (pick (not (atRest (versionAt image at) && leb (nkeysAt image at) 15)) (stop 4)
       (internodeC kid image at lo hi p)) p here
   unfolding internodeHead internodeC passInternode lowEnd afterN afterK InPostOrderN endN lastN firstN ShortPathsN AscendN InRangeN LinkedN FieldsN leavesN valuesN layersN SoundN SoundK
@@ -125,7 +125,7 @@ module _ (image : List ℕ) (depth : ℕ) (kid : ℕ → ℕ → ℕ → Progres
           search
 
   -- a sound internode is reached
-  pub internode-reached : (p : Progress) → Ready image p → SoundN image depth lo hi p here → Reachable image 256 at p
+  pub internode-reached : (p : Progress) → Underway image p → SoundN image depth lo hi p here → Reachable image 256 at p
   unfolding internodeHead InPostOrderN endN SoundN
   internode-reached p r h =
       let e = h .post .1 in
@@ -137,7 +137,7 @@ module _ (image : List ℕ) (depth : ℕ) (kid : ℕ → ℕ → ℕ → Progres
 
 module _ (image : List ℕ) (sub : ℕ → Progress → Progress) (tree : ℕ → Node) (depth : ℕ) (layers : Layers image (depth + 1) sub tree) where
   -- A RECORD that is a leaf, or else comes to `inner` and holds `node`.
-  record-run : (at lo hi : ℕ) (p : Progress) → Ready image p → (inner : Progress) (node : Node)
+  record-run : (at lo hi : ℕ) (p : Progress) → Underway image p → (inner : Progress) (node : Node)
       → (Reachable image 256 at p
       → Checks image depth lo hi (pick (not (atRest (versionAt image at) && leb (nkeysAt image at) 15)) (stop 4) inner) p node)
       → (SoundN image depth lo hi p node → Reachable image 256 at p)

@@ -10,6 +10,7 @@ mod slot;
 use node::internode;
 use node::leaf;
 use node::permuter;
+use node::permuter::Position;
 use node::trailer;
 ghost use Rattle.base.specs.Kit.{_≡_, _+_, _*_, _-_, _≤_};
 ghost use Rattle.node.specs.Layout.{permutationAt};
@@ -139,7 +140,16 @@ fn check_layers(image: &[u8], below: usize, at: usize, lo: u64, top: u64, p: Pro
     let mut sofar = p;
     let mut i = 0;
     while i < n {
-        let found = slot::slot_check(image, permutation, 31 - below, at, lo, top, i, sofar);
+        let found = slot::slot_check(
+            image,
+            permutation,
+            31 - below,
+            at,
+            lo,
+            top,
+            Position(i),
+            sofar,
+        );
         match found {
             SlotCheck::Fault(k) => {
                 return pass::stopped(k);

@@ -146,7 +146,7 @@ pub fn record_check(
     if !is_reachable(image, internode::INTERNODE_SIZE, at, p) {
         return RecordCheck::Fault(3);
     }
-    let version = internode::version(image, at as usize);
+    let version = nodeversion::version(image, at as usize);
     if nodeversion::is_leaf(version) {
         return leaf_check(image, version, at, p);
     }

@@ -77,14 +77,22 @@ fn is_before(ikey: u64, keylenx: u8, ikey2: u64, keylenx2: u8) -> bool
     keylenx < leaf::KSUF_KEYLENX
 }
 
-// Number 8 for the slot at position i and the one before it.
-fn is_in_order(image: &[u8], permutation: u64, at: usize, i: usize, ikey: u64, keylenx: u8) -> bool
+// Number 8 for the slot at a position and the one before it.
+fn is_in_order(
+    image: &[u8],
+    permutation: u64,
+    at: usize,
+    position: Position,
+    ikey: u64,
+    keylenx: u8,
+) -> bool
     requires { ⌜ Opened (now image) at permutation ⌝ }
-    requires { ⌜ i < 15 ⌝ }
-    requires { ⌜ ikey ≡ ikeyAt (now image) at (slotAt permutation (record { 0 = i })) ⌝ }
-    requires { ⌜ keylenx ≡ keylenxAt (now image) at (slotAt permutation (record { 0 = i })) ⌝ }
-    ensures { λ r. ⌜ r ≡ inOrder (now (image .entry)) at i ⌝ }
+    requires { ⌜ position .0 < 15 ⌝ }
+    requires { ⌜ ikey ≡ ikeyAt (now image) at (slotAt permutation position) ⌝ }
+    requires { ⌜ keylenx ≡ keylenxAt (now image) at (slotAt permutation position) ⌝ }
+    ensures { λ r. ⌜ r ≡ inOrder (now (image .entry)) at (position .0) ⌝ }
 {
+    let i = position.0;
     if i == 0 {
         return true;
     }
@@ -104,17 +112,17 @@ fn is_placed(
     at: usize,
     lo: u64,
     top: u64,
-    i: usize,
+    position: Position,
     ikey: u64,
     keylenx: u8,
 ) -> bool
     requires { ⌜ Opened (now image) at permutation ⌝ }
-    requires { ⌜ i < 15 ⌝ }
-    requires { ⌜ ikey ≡ ikeyAt (now image) at (slotAt permutation (record { 0 = i })) ⌝ }
-    requires { ⌜ keylenx ≡ keylenxAt (now image) at (slotAt permutation (record { 0 = i })) ⌝ }
-    ensures { λ r. ⌜ r ≡ inOrder (now (image .entry)) at i && inRange lo (top + 1) (keyed ikey keylenx 0) ⌝ }
+    requires { ⌜ position .0 < 15 ⌝ }
+    requires { ⌜ ikey ≡ ikeyAt (now image) at (slotAt permutation position) ⌝ }
+    requires { ⌜ keylenx ≡ keylenxAt (now image) at (slotAt permutation position) ⌝ }
+    ensures { λ r. ⌜ r ≡ inOrder (now (image .entry)) at (position .0) && inRange lo (top + 1) (keyed ikey keylenx 0) ⌝ }
 {
-    if !is_in_order(image, permutation, at, i, ikey, keylenx) {
+    if !is_in_order(image, permutation, at, position, ikey, keylenx) {
         return false;
     }
     if ikey < lo {
@@ -160,7 +168,7 @@ fn kind_check(image: &[u8], at: usize, slot: Slot, p: Progress) -> SlotCheck
     SlotCheck::Passed(pass::pass_suffix(p, 0))
 }
 
-// The slot at position i of the leaf at `at`, whose layer lies at `depth`.
+// The slot at a position of the leaf at `at`, whose layer lies at `depth`.
 pub fn slot_check(
     image: &[u8],
     permutation: u64,
@@ -168,17 +176,17 @@ pub fn slot_check(
     at: usize,
     lo: u64,
     top: u64,
-    i: usize,
+    position: Position,
     p: Progress,
 ) -> SlotCheck
     requires { ⌜ Opened (now image) at permutation ⌝ }
     requires { ⌜ depth ≤ 31 ⌝ }
     requires { ⌜ at ≤ 16777216 ⌝ }
-    requires { ⌜ i < 15 ⌝ }
+    requires { ⌜ position .0 < 15 ⌝ }
     requires { ⌜ Bounded 480 p ⌝ }
-    ensures { λ r. ⌜ r ≡ slotCheck (now (image .entry)) depth at lo (top + 1) i p ⌝ }
+    ensures { λ r. ⌜ r ≡ slotCheck (now (image .entry)) depth at lo (top + 1) (position .0) p ⌝ }
 {
-    let slot = permuter::get(permutation, Position(i));
+    let slot = permuter::get(permutation, position);
     let ikey = leaf::ikey(image, at, slot);
     let keylenx = leaf::keylenx(image, at, slot);
     if !is_listed(depth, ikey, keylenx) {
@@ -187,7 +195,7 @@ pub fn slot_check(
     if !fits_key(image, depth, at, slot, keylenx) {
         return SlotCheck::Fault(7);
     }
-    if !is_placed(image, permutation, at, lo, top, i, ikey, keylenx) {
+    if !is_placed(image, permutation, at, lo, top, position, ikey, keylenx) {
         return SlotCheck::Fault(8);
     }
     kind_check(image, at, slot, p)

@@ -1,4 +1,4 @@
--- The test of a walk's numbers: what the code's fourth test says, and what a walk that passes has. Assumes nothing.
+-- The test of a walk's numbers: what the code's fourth test says, and what a walk that passes has.
 use Rattle.base.specs.Kit.{_≡_, true, false, and-eq-true-iff, ℕ, _+_, _*_, _-_, _≤_, _<_, arith, leb, leb-true, eqb-true, lt-leb, le-leb}
 use Rattle.walk.specs.Types.{Walk}
 use Rattle.walk.specs.Walk.{walkOk}

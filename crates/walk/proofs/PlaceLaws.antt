@@ -1,4 +1,4 @@
--- What a placing that is not declined says of what it was given. Assumes nothing.
+-- What a placing that is not declined says of what it was given.
 use Rattle.base.specs.Kit.{_≡_, Bool, true, false, List, ℕ, _≤_, arith, length, ltb-false, eqb-true, eqb-false, not-true, not-false}
 use Rattle.base.specs.Pick.{pick}
 use Rattle.base.proofs.Choice.{pick-ind}

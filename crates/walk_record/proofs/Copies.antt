@@ -1,4 +1,4 @@
--- A copy that fills the whole slice. Assumes nothing.
+-- A copy that fills the whole slice.
 use Rattle.base.specs.Kit.{_≡_, subst, List, append-nil, ℕ, _<_, _+_, zero-add, add-one, length, set, getD, paste, paste-suc, take-length, drop-length}
 use Rattle.key.specs.Part.{padded}
 

@@ -1,5 +1,5 @@
 -- THE THEOREM: the two conversions between walks and records are inverse. `record-inverse`: on every walk; `walk-inverse`: on every
--- record that is a walk's. Lists of known length are written out, and then both compute. Assumes nothing.
+-- record that is a walk's. Lists of known length are written out, and then both compute.
 use Rattle.base.specs.Kit.{_≡_, refl, true, List, ℕ, zero, suc, _≤_, arith, leb, length, getD, le-leb}
 use Rattle.base.specs.Pick.{pick}
 use Rattle.walk.specs.Walk.{emptyContext}

@@ -1,4 +1,4 @@
--- A list of known length is its elements written out. Assumes nothing.
+-- A list of known length is its elements written out.
 use Rattle.base.specs.Kit.{_≡_, List, [], _∷_, ℕ, zero, suc, _+_, arith, length, getD, drop, drop-cons, drop-length}
 
 -- the n elements of l from i on, each by its index

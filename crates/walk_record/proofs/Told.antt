@@ -1,13 +1,13 @@
--- What the tests of a record say. Assumes nothing.
+-- What the tests of a record say.
 use Rattle.base.specs.Kit.{_≡_, true, and-eq-true-iff, List, ℕ, _≤_, length, getD, leb-true, eqb-true}
 use Rattle.walk_record.specs.Record.{sized, isRecord}
 
-pub record Sized (numbers buf bound : ℕ) : Type 0 where
+pub record Lengths (numbers buf bound : ℕ) : Type 0 where
   pub numbers-is : numbers ≡ 74
   pub buf-is : buf ≡ 256
   pub bound-is : bound ≡ 256
 
-pub sized-told : (numbers buf bound : ℕ) → sized numbers buf bound ≡ true → Sized numbers buf bound
+pub sized-told : (numbers buf bound : ℕ) → sized numbers buf bound ≡ true → Lengths numbers buf bound
 unfolding sized
 sized-told numbers buf bound e =
     let n = and-eq-true-iff _ _ .0 e in
@@ -16,7 +16,7 @@ sized-told numbers buf bound e =
 
 -- the record is a walk's
 pub record Told (numbers buf bound : List ℕ) : Type 0 where
-  pub lengths : Sized (length numbers) (length buf) (length bound)
+  pub lengths : Lengths (length numbers) (length buf) (length bound)
   pub kind-fits : getD numbers 8 0 ≤ 255
   pub state-fits : getD numbers 10 0 ≤ 3
   pub mode-fits : getD numbers 11 0 ≤ 1

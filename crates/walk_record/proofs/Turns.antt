@@ -1,4 +1,4 @@
--- The two loops over the stack, as functions of the turns left, and what all turns come to. Assumes nothing.
+-- The two loops over the stack, as functions of the turns left, and what all turns come to.
 use Rattle.base.specs.Kit.{_≡_, refl, List, ℕ, zero, suc, _+_, _*_, _-_, _<_, _≤_, arith, getD, set, replicate}
 use Rattle.base.proofs.Count.{left-more}
 use Rattle.walk_record.specs.Types.{LayerContext, Walk}

@@ -1,4 +1,4 @@
--- P1 to P12 hold: the machine says of every example of the table what 01 says, by computation. Assumes nothing.
+-- P1 to P12 hold: the machine says of every example of the table what 01 says, by computation.
 use Rattle.base.specs.Kit.{map, _≡_, refl}
 use Rattle.base.specs.Pick.{pick}
 use Rattle.key.specs.Order.{order, then, byteOrder}

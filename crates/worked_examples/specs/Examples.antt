@@ -17,7 +17,7 @@ use Rattle.worked_examples.specs.Sample.{entry, dead, layerSlot, leafByt
 -- What an example says: the check's number of its image, 0 for each, and its leaves, value slots and sub-layers; the number with which
 -- placing or a step declines, 0 where the walk comes to its end; the keys handed out with their values before that; and all moves up to
 -- and with the first none, where 01 gives them.
-pub record Said : Type 0 where
+pub record Stated : Type 0 where
   pub checked : List ℕ
   pub number : ℕ
   pub pairs : List Pair
@@ -29,7 +29,7 @@ pub record Example : Type 0 where
   pub cursor : List ℕ
   pub kind : ℕ
   pub bound : List ℕ
-  pub says : Said
+  pub says : Stated
 
 -- A key with a value.
 unfoldable pub pair : List ℕ → ℕ → Pair
@@ -65,17 +65,17 @@ asked (some n) moves = some moves
 asked none moves = none
 
 -- What the machine says of an example: the placing's number; or what as many steps as the example has keys, and one more, hand out.
-unfoldable pub answered : Example → Placed → Said
+unfoldable pub answered : Example → Placed → Stated
 answered e p =
     let h = hand (length (e .says .pairs) + 1) (e .image) (p .walk) in
     let c = checkNumbers (check (e .image)) in
     pick (eqb (p .code) 0) (record { checked = c; number = h .number; pairs = h .pairs; moves = asked (e .says .moves) (h .moves) })
     (record { checked = c; number = p .code; pairs = []; moves = none })
 
-unfoldable pub machineSays : Example → Said
+unfoldable pub machineSays : Example → Stated
 machineSays e = answered e (place (e .image) (e .mode) (e .cursor) (e .kind) (e .bound))
 
-unfoldable pub paperSays : Example → Said
+unfoldable pub paperSays : Example → Stated
 paperSays e = e .says
 
 -- "Tree A: one leaf, ""=1, "a"=7, "ab"=9, 440 bytes."
@@ -93,10 +93,10 @@ treeB = imageOf (leafBytes (entry (46 ∷ 49 ∷ []) 4 ∷ entry (46 ∷ 50 ∷ 
 unfoldable pub accepts : ℕ → ℕ → ℕ → List ℕ
 accepts leaves values layers = 0 ∷ leaves ∷ values ∷ layers ∷ []
 
-unfoldable pub gives : List ℕ → List Pair → Option ℕ → Said
+unfoldable pub gives : List ℕ → List Pair → Option ℕ → Stated
 gives checked pairs moves = record { checked = checked; number = 0; pairs = pairs; moves = moves }
 
-unfoldable pub walking : List ℕ → StartMode → List ℕ → ℕ → List ℕ → Said → Example
+unfoldable pub walking : List ℕ → StartMode → List ℕ → ℕ → List ℕ → Stated → Example
 walking image mode cursor kind bound says = record { image = image; mode = mode; cursor = cursor; kind = kind; bound = bound; says = says }
 
 -- The two trees are accepted.

@@ -1,4 +1,4 @@
--- The walk that is counted is the placing's. Assumes nothing.
+-- The walk that is counted is the placing's.
 use Rattle.base.specs.Kit.{_∙_, needs}
 use Rattle.bench_loops.proofs.timed_count.Statement.{statement}
 use Rattle.bench_loops.proofs.timed_count.Tie as tie

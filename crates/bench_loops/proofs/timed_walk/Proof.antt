@@ -1,4 +1,4 @@
--- The placing's number decides: 0 where it is declined, else the count, by either loop. Assumes nothing.
+-- The placing's number decides: 0 where it is declined, else the count, by either loop.
 use Rattle.base.specs.Kit.{needs}
 use Rattle.bench_loops.proofs.Counting.{declined, counted}
 use Rattle.bench_loops.proofs.timed_walk.Statement.{statement}

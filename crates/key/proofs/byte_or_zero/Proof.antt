@@ -1,4 +1,4 @@
--- `key::byte_or_zero` meets its contract: past the key's end `getD` gives its default, 0. Assumes nothing.
+-- `key::byte_or_zero` meets its contract: past the key's end `getD` gives its default, 0.
 use Rattle.base.specs.Kit.{sym, List·getD-eq-default, needs}
 use Rattle.key.proofs.byte_or_zero.Statement.{statement}
 use Rattle.key.proofs.byte_or_zero.Tie as tie

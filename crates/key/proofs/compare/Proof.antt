@@ -1,5 +1,5 @@
 -- `key::compare` meets its contract. The loop's invariant: byte order of what is left from i on is byte order of the whole.
--- The measure is what is left of a. Assumes nothing.
+-- The measure is what is left of a.
 use Rattle.base.specs.Kit.{_≡_, _≤_, _-_, length, drop, needs}
 use Rattle.key.specs.Order.{byteOrder}
 use Rattle.key.proofs.Turns.{left-longer, right-longer, both-ended, byte-less, byte-greater, byte-equal}

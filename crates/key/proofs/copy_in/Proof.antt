@@ -1,5 +1,5 @@
 -- `key::copy_in` meets its contract. The loop's invariant: the buffer is the one that came in with the first i bytes pasted
--- in. The measure is what is left of the bytes. Assumes nothing.
+-- in. The measure is what is left of the bytes.
 use Rattle.base.specs.Kit.{_≡_, _∙_, _+_, _-_, _≤_, _<_, add-one, arith, length, length-set, paste, paste-zero, paste-suc, needs}
 use Rattle.base.proofs.Needs.{five}
 use Rattle.key.proofs.copy_in.Statement.{statement}

@@ -1,4 +1,4 @@
--- `key::copy_word` meets its contract: the word holds the eight bytes, and goes on into the buffer. Assumes nothing.
+-- `key::copy_word` meets its contract: the word holds the eight bytes, and goes on into the buffer.
 use Rattle.base.specs.Kit.{arith, needs}
 use Rattle.base.proofs.Needs.{four}
 use Rattle.key.proofs.Words.{word-long, word-in}

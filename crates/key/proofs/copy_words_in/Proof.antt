@@ -1,4 +1,4 @@
--- `key::copy_words_in` meets its contract: the four words hold all bytes, some of them twice. Assumes nothing.
+-- `key::copy_words_in` meets its contract: the four words hold all bytes, some of them twice.
 use Rattle.base.specs.Kit.{needs}
 use Rattle.base.proofs.Needs.{five}
 use Rattle.key.proofs.Words.{four-words}

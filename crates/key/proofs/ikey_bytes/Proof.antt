@@ -1,4 +1,4 @@
--- `key::ikey_bytes` meets its contract: `digits 8` computes to the eight quotients, the last by 256 ^ 0. Assumes nothing.
+-- `key::ikey_bytes` meets its contract: `digits 8` computes to the eight quotients, the last by 256 ^ 0.
 use Rattle.base.specs.Kit.{div-one, needs}
 use Rattle.base.proofs.Needs.{eight}
 use Rattle.key.specs.Ikey.{ikeyBytes, digits}

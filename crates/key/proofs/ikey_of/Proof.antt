@@ -1,5 +1,5 @@
 -- `key::ikey_of` meets its contract. The loop's invariant: the number so far is that of the first i bytes. The measure is
--- what is left of eight. Assumes nothing.
+-- what is left of eight.
 use Rattle.base.specs.Kit.{_≡_, _∙_, suc, _+_, _*_, _-_, _^_, _≤_, _<_, add-one, arith, getD, needs}
 use Rattle.key.specs.Ikey.{be, ikeyOf}
 use Rattle.key.proofs.Turns.{be-more, be-fits}

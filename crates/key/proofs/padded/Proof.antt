@@ -1,4 +1,4 @@
--- `key::padded` meets its contract: the key is copied into zeroes. Assumes nothing.
+-- `key::padded` meets its contract: the key is copied into zeroes.
 use Rattle.base.specs.Kit.{_∙_, needs}
 use Rattle.key.proofs.Part.{paste-padded}
 use Rattle.key.proofs.padded.Statement.{statement}

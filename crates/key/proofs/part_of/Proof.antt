@@ -1,4 +1,4 @@
--- `key::part_of` meets its contract: the part that the code cuts out has at + n - at bytes. Assumes nothing.
+-- `key::part_of` meets its contract: the part that the code cuts out has at + n - at bytes.
 use Rattle.base.specs.Kit.{_≡_, _+_, _-_, arith, needs}
 use Rattle.key.specs.Part.{part}
 use Rattle.key.proofs.part_of.Statement.{statement}

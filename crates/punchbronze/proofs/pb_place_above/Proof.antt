@@ -1,4 +1,4 @@
--- `pb_place_above` meets its contract: the placing is put into the record. Assumes nothing.
+-- `pb_place_above` meets its contract: the placing is put into the record.
 
 use Rattle.base.specs.Kit.{needs}
 use Rattle.punchbronze.proofs.pb_place_above.Statement.{statement}

@@ -1,4 +1,4 @@
--- `put_placed` meets its contract: the test of the lengths decides for all four. Assumes nothing.
+-- `put_placed` meets its contract: the test of the lengths decides for all four.
 use Rattle.base.specs.Kit.{refl, sym, _∙_, not-false, needs}
 use Rattle.base.proofs.Choice.{not-pick-on, not-pick-off}
 use Rattle.punchbronze.specs.Interface.{placedNumber, placedNumbers, placedBuf, placedBound}

@@ -1,5 +1,5 @@
 -- `sheet::decimal_len` meets its contract. The loop's invariant: the digits counted and those of what is left are one more than
--- x has. The measure is what is left. Assumes nothing.
+-- x has. The measure is what is left.
 use Rattle.base.specs.Kit.{_≡_, _+_, _≤_, arith, length, needs}
 use Rattle.sheet.specs.Sheet.{decimal}
 use Rattle.sheet.proofs.Decimal.{decimal-one-length, decimal-more-length, decimal-length}

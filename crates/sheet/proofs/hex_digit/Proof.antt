@@ -1,4 +1,4 @@
--- `sheet::hex_digit` meets its contract: each way is a branch of the definition. Assumes nothing.
+-- `sheet::hex_digit` meets its contract: each way is a branch of the definition.
 use Rattle.base.specs.Kit.{needs}
 use Rattle.base.specs.Pick.{pick}
 use Rattle.base.proofs.Tests.{tests}

@@ -1,4 +1,4 @@
--- `sheet::hex_key_len` meets its contract: one byte for the empty key, else two for each byte. Assumes nothing.
+-- `sheet::hex_key_len` meets its contract: one byte for the empty key, else two for each byte.
 use Rattle.base.specs.Kit.{needs}
 use Rattle.sheet.proofs.Hex.{hexBytes-length, hexKey-none, hexKey-some}
 use Rattle.sheet.proofs.hex_key_len.Statement.{statement}

@@ -1,4 +1,4 @@
--- `sheet::pair_line` meets its contract: the key in hex and a space, then the value and a newline. Assumes nothing.
+-- `sheet::pair_line` meets its contract: the key in hex and a space, then the value and a newline.
 use Rattle.base.specs.Kit.{_≡_, _∙_, List, [], _∷_, _++_, ℕ, _+_, arith, length, length-append, length-set, needs}
 use Rattle.sheet.specs.Sheet.{hexKey, pairLine}
 use Rattle.sheet.proofs.Decimal.{decimal-length}

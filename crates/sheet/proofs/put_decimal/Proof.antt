@@ -1,5 +1,5 @@
 -- `sheet::put_decimal` meets its contract. The loop's invariant: the digits of what is left, written at `at`, make the whole;
--- i is the place of the last of them. The measure is what is left. Assumes nothing.
+-- i is the place of the last of them. The measure is what is left.
 use Rattle.base.specs.Kit.{_≡_, refl, _∙_, _+_, _/_, _≤_, _<_, arith, length, paste, needs}
 use Rattle.base.proofs.Needs.{three}
 use Rattle.sheet.specs.Sheet.{decimal}

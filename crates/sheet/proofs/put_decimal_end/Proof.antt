@@ -1,4 +1,4 @@
--- `sheet::put_decimal_end` meets its contract: a decimal and one byte more. Assumes nothing.
+-- `sheet::put_decimal_end` meets its contract: a decimal and one byte more.
 use Rattle.base.specs.Kit.{arith, needs}
 use Rattle.base.proofs.Needs.{three}
 use Rattle.sheet.specs.Sheet.{decimal}

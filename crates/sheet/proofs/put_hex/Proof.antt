@@ -1,5 +1,5 @@
 -- `sheet::put_hex` meets its contract. The loop's invariant: the digits of the bytes from i on, written at 2 * i, make the
--- whole. The measure is what is left of the key. Assumes nothing.
+-- whole. The measure is what is left of the key.
 use Rattle.base.specs.Kit.{_≡_, _∙_, _*_, _-_, _≤_, _<_, arith, length, getD, drop, length-set, paste, needs}
 use Rattle.sheet.specs.Sheet.{hexBytes}
 use Rattle.sheet.proofs.Hex.{hex-more, hex-none}

@@ -1,4 +1,4 @@
--- `sheet::put_hex_key` meets its contract: the empty key is one store, any other its bytes in hex. Assumes nothing.
+-- `sheet::put_hex_key` meets its contract: the empty key is one store, any other its bytes in hex.
 use Rattle.base.specs.Kit.{arith, ap, length, needs}
 use Rattle.sheet.proofs.Paste.{paste-one}
 use Rattle.sheet.proofs.Hex.{hexBytes-length, hexKey-none, hexKey-some}

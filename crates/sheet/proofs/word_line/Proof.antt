@@ -1,4 +1,4 @@
--- `sheet::word_line` meets its contract: the text, then the number and a newline. Assumes nothing.
+-- `sheet::word_line` meets its contract: the text, then the number and a newline.
 use Rattle.base.specs.Kit.{_∙_, arith, needs}
 use Rattle.base.proofs.Needs.{three}
 use Rattle.sheet.proofs.Decimal.{decimal-length}

@@ -1,4 +1,4 @@
--- `from_slice` meets its contract: the buffer and the ikey are those of `padded` and `ikey_of`. Assumes nothing.
+-- `from_slice` meets its contract: the buffer and the ikey are those of `padded` and `ikey_of`.
 use Rattle.base.specs.Kit.{needs}
 use Rattle.cursor.specs.CursorKey.{fromSlice}
 use Rattle.cursor.proofs.cursor_key.from_slice.Statement.{statement}

@@ -1,4 +1,4 @@
--- `bound_of` meets its contract: the code's test is the definition's. Assumes nothing.
+-- `bound_of` meets its contract: the code's test is the definition's.
 use Rattle.base.specs.Kit.{needs}
 use Rattle.base.specs.Pick.{pick}
 use Rattle.base.proofs.Tests.{tests}

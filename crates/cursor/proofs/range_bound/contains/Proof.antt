@@ -1,4 +1,4 @@
--- `contains` meets its contract: the code's test is the definition's, and each arm is a case of `admits`. Assumes nothing.
+-- `contains` meets its contract: the code's test is the definition's, and each arm is a case of `admits`.
 use Rattle.base.specs.Kit.{needs}
 use Rattle.base.proofs.Needs.{four}
 use Rattle.base.specs.Pick.{pick}

@@ -1,5 +1,5 @@
 -- `in_place::is_numbers_ok` meets its contract: the tests stand in the order of the definition; where the fourth stands, the offset
--- is 248 at most. Assumes nothing.
+-- is 248 at most.
 use Rattle.base.specs.Kit.{needs}
 use Rattle.base.proofs.Tests.{tests}
 use Rattle.walk.specs.Walk.{walkOk}

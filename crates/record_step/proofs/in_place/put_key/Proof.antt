@@ -1,4 +1,4 @@
--- `in_place::put_key` meets its contract: the four stores are the definition's. Assumes nothing.
+-- `in_place::put_key` meets its contract: the four stores are the definition's.
 use Rattle.base.specs.Kit.{needs}
 use Rattle.record_step.specs.InPlace.{keyNumbers}
 use Rattle.record_step.proofs.in_place.put_key.Statement.{statement}

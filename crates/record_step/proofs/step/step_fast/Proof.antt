@@ -1,7 +1,7 @@
--- `step_fast` meets its contract: the key that is stored is out, or past the bound, and the record is changed in place. Assumes nothing.
+-- `step_fast` meets its contract: the key that is stored is out, or past the bound, and the record is changed in place.
 use Rattle.base.specs.Kit.{_+_, _≤_, sym, _∙_, arith, needs}
 use Rattle.moves.proofs.FastLaws.{next-place}
-use Rattle.record_step.proofs.InPlace.{Ready, ready, key-fits-in, key-out, key-past}
+use Rattle.record_step.proofs.InPlace.{Steppable, ready, key-fits-in, key-out, key-past}
 use Rattle.record_step.proofs.step.step_fast.Statement.{statement}
 use Rattle.record_step.proofs.step.step_fast.Tie as tie
 use Rattle.record_step.proofs.step.step_fast.Reads as reads
@@ -17,7 +17,7 @@ abbrev Readings : lts.Claims
 Readings = (place-of-reads.Asked, place-of-reads.Learnt, part-of-reads.Asked, part-of-reads.Learnt, hand-out-reads.Asked, hand-out-reads.Learnt, put-key-reads.Asked, put-key-reads.Learnt, answer-numbers-reads.Asked, answer-numbers-reads.Learnt, copy-words-reads.Asked, copy-words-reads.Learnt)
 
 -- what the code asks of the record
-is-ready : (c : lts.Start Readings reads.Pre reads.Post) → Ready (c .args .numbers .now) (c .args .buf .now) (c .args .bound .now) (c .args .image .now) (c .args .slot)
+is-ready : (c : lts.Start Readings reads.Pre reads.Post) → Steppable (c .args .numbers .now) (c .args .buf .now) (c .args .bound .now) (c .args .image .now) (c .args .slot)
 is-ready c = ready _ _ _ _ (c .pre .1 .0) (c .pre .1 .1 .0) (c .pre .1 .1 .1 .0) (c .pre .1 .1 .1 .1 .0) _ (c .pre .1 .1 .1 .1 .1)
 
 hand-out-requires : tie.Need-hand-out-requires

@@ -1,4 +1,4 @@
--- Its leaf is not there; or its next slot is fast, or is not. Assumes nothing.
+-- Its leaf is not there; or its next slot is fast, or is not.
 use Rattle.base.specs.Kit.{sym, _∙_, needs}
 use Rattle.base.proofs.Choice.{found-so, found-not}
 use Rattle.moves.proofs.Answers.{there-in}

@@ -1,4 +1,4 @@
--- Both ways are the machine's step. Assumes nothing.
+-- Both ways are the machine's step.
 use Rattle.base.specs.Kit.{ap, _∙_, needs}
 use Rattle.scan.specs.Machine.{isEnded}
 use Rattle.scan.proofs.BeginLaws.{step-advances}

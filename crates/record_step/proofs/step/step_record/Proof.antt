@@ -1,5 +1,4 @@
 -- Where the walk has handed out a key and its numbers are in range the step is made on the record; both ways are the record's step.
--- Assumes nothing.
 use Rattle.base.specs.Kit.{sym, _∙_, false≢true, needs}
 use Rattle.walk_record.proofs.Told.{record-told}
 use Rattle.record_step.proofs.step.step_record.Statement.{statement}

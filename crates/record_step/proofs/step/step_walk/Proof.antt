@@ -1,4 +1,4 @@
--- `step_walk` meets its contract: the number of the step decides. Assumes nothing.
+-- `step_walk` meets its contract: the number of the step decides.
 use Rattle.base.specs.Kit.{_∙_, needs}
 use Rattle.base.proofs.Needs.{six}
 use Rattle.walk_record.proofs.Told.{record-told}

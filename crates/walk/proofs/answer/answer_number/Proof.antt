@@ -1,4 +1,4 @@
--- `answer_number` meets its contract: each answer has its arm. Assumes nothing.
+-- `answer_number` meets its contract: each answer has its arm.
 use Rattle.walk.specs.Walk.{numberOf}
 use Rattle.base.specs.Kit.{needs}
 use Rattle.walk.proofs.answer.answer_number.Statement.{statement}

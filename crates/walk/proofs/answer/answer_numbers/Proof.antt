@@ -1,4 +1,4 @@
--- `answer_numbers` meets its contract: each answer has its arm. Assumes nothing.
+-- `answer_numbers` meets its contract: each answer has its arm.
 use Rattle.walk.specs.Walk.{keysOf, lenOf, valueOf, answerNumbers}
 use Rattle.base.specs.Kit.{needs}
 use Rattle.walk.proofs.answer.answer_numbers.Statement.{statement}

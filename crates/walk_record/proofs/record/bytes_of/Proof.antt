@@ -1,4 +1,4 @@
--- `record::bytes_of` meets its contract: a key of 256 bytes is padded with nothing. Assumes nothing.
+-- `record::bytes_of` meets its contract: a key of 256 bytes is padded with nothing.
 use Rattle.base.specs.Kit.{_∙_, needs}
 use Rattle.walk_record.proofs.Copies.{padded-whole}
 use Rattle.walk_record.proofs.record.bytes_of.Statement.{statement}

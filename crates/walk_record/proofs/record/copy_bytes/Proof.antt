@@ -1,4 +1,4 @@
--- `record::copy_bytes` meets its contract: a copy of as many bytes as there is room for. Assumes nothing.
+-- `record::copy_bytes` meets its contract: a copy of as many bytes as there is room for.
 use Rattle.base.specs.Kit.{_∙_, needs}
 use Rattle.walk_record.proofs.Copies.{paste-whole}
 use Rattle.walk_record.proofs.record.copy_bytes.Statement.{statement}

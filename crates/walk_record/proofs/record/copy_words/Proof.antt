@@ -1,5 +1,5 @@
 -- `record::copy_words` meets its contract. The loop's invariant: the slice is the one that came in with the first i numbers
--- pasted in. The measure is what is left of the numbers. Assumes nothing.
+-- pasted in. The measure is what is left of the numbers.
 use Rattle.base.specs.Kit.{_≡_, _∙_, _-_, _≤_, _<_, arith, length, length-set, paste, paste-zero, needs}
 use Rattle.base.proofs.Needs.{six}
 use Rattle.walk_record.proofs.Copies.{paste-whole, paste-next}

@@ -1,4 +1,4 @@
--- `record::head_of` meets its contract: the stores into zeroes are the definition written out. Assumes nothing.
+-- `record::head_of` meets its contract: the stores into zeroes are the definition written out.
 use Rattle.base.specs.Kit.{needs}
 use Rattle.base.proofs.Needs.{five, ten}
 use Rattle.walk_record.specs.Laid.{headOf}

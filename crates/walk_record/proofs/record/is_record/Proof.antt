@@ -1,4 +1,4 @@
--- `record::is_record` meets its contract: the tests stand in the order of the definition. Assumes nothing.
+-- `record::is_record` meets its contract: the tests stand in the order of the definition.
 use Rattle.base.specs.Kit.{needs}
 use Rattle.base.proofs.Tests.{tests}
 use Rattle.walk_record.specs.Record.{sized, isRecord}

@@ -1,4 +1,4 @@
--- `record::is_sized` meets its contract: the tests stand in the order of the definition. Assumes nothing.
+-- `record::is_sized` meets its contract: the tests stand in the order of the definition.
 use Rattle.base.proofs.Tests.{tests}
 use Rattle.walk_record.specs.Record.{sized}
 use Rattle.walk_record.proofs.record.is_sized.Statement.{statement}

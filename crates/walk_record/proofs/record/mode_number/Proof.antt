@@ -1,4 +1,4 @@
--- `record::mode_number` meets its contract: each mode has its arm. Assumes nothing.
+-- `record::mode_number` meets its contract: each mode has its arm.
 use Rattle.base.specs.Kit.{needs}
 use Rattle.walk_record.specs.Record.{modeNumber}
 use Rattle.walk_record.proofs.record.mode_number.Statement.{statement}

@@ -1,4 +1,4 @@
--- `record::mode_of` meets its contract: the test is the definition's. Assumes nothing.
+-- `record::mode_of` meets its contract: the test is the definition's.
 use Rattle.base.specs.Pick.{pick}
 use Rattle.base.proofs.Tests.{tests}
 use Rattle.walk_record.specs.Record.{modeOf}

@@ -1,5 +1,5 @@
 -- `record::numbers_of` meets its contract. The loop's invariant: what the turns left make of the numbers is what all turns make
--- of the first eleven. The measure is the turns left. Assumes nothing.
+-- of the first eleven. The measure is the turns left.
 use Rattle.base.specs.Kit.{_≡_, refl, sym, ap, _∙_, List, ℕ, _-_, _≤_, length, length-set, needs}
 use Rattle.base.proofs.Needs.{ten, three}
 use Rattle.walk_record.proofs.Turns.{spread, spread-more, spread-done, spread-all}

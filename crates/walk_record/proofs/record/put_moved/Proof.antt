@@ -1,4 +1,4 @@
--- `record::put_moved` meets its contract: each lent slice gets its part of the record, whole. Assumes nothing.
+-- `record::put_moved` meets its contract: each lent slice gets its part of the record, whole.
 use Rattle.base.specs.Kit.{_∙_, needs}
 use Rattle.base.proofs.Needs.{six}
 use Rattle.walk_record.proofs.record.put_moved.Statement.{statement}

@@ -1,5 +1,5 @@
 -- `record::read_stack` meets its contract. The loop's invariant: what the turns left make of the stack is what all turns make of
--- the empty one. The measure is the turns left. Assumes nothing.
+-- the empty one. The measure is the turns left.
 use Rattle.base.specs.Kit.{_≡_, refl, sym, _∙_, _-_, _≤_, length, length-set, needs}
 use Rattle.base.proofs.Needs.{ten, three}
 use Rattle.walk_record.specs.Record.{entryAt}

@@ -1,4 +1,4 @@
--- `record::read_walk` meets its contract: the definition's fields. Assumes nothing.
+-- `record::read_walk` meets its contract: the definition's fields.
 use Rattle.base.specs.Kit.{needs}
 use Rattle.base.proofs.Needs.{nine, three}
 use Rattle.walk_record.specs.Record.{readWalk}

@@ -1,4 +1,4 @@
--- `record::state_number` meets its contract: each state has its arm. Assumes nothing.
+-- `record::state_number` meets its contract: each state has its arm.
 use Rattle.base.specs.Kit.{needs}
 use Rattle.base.proofs.Needs.{four}
 use Rattle.walk_record.specs.Record.{stateNumber}

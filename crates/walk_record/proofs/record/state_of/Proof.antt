@@ -1,4 +1,4 @@
--- `record::state_of` meets its contract: the tests stand in the order of the definition. Assumes nothing.
+-- `record::state_of` meets its contract: the tests stand in the order of the definition.
 use Rattle.base.specs.Pick.{pick}
 use Rattle.base.proofs.Tests.{tests}
 use Rattle.walk_record.specs.Record.{stateOf}

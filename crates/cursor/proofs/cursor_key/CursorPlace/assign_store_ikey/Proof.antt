@@ -1,5 +1,5 @@
 -- `CursorPlace::assign_store_ikey` meets its contract: what `copy_in` leaves is the definition's, since an ikey has eight
--- bytes. Assumes nothing.
+-- bytes.
 use Rattle.base.specs.Kit.{_∙_, needs}
 use Rattle.base.proofs.Needs.{four}
 use Rattle.key.specs.Ikey.{ikeyBytes, digits}

@@ -1,4 +1,4 @@
--- `CursorPlace::assign_store_length` meets its contract: the place that it makes is the definition's. Assumes nothing.
+-- `CursorPlace::assign_store_length` meets its contract: the place that it makes is the definition's.
 use Rattle.base.specs.Kit.{needs}
 use Rattle.cursor.specs.CursorKey.{withLength}
 use Rattle.cursor.proofs.cursor_key.CursorPlace.assign_store_length.Statement.{statement}

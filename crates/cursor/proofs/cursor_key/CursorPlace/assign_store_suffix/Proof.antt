@@ -1,4 +1,4 @@
--- `CursorPlace::assign_store_suffix` meets its contract: what the copy leaves is the definition's. Assumes nothing.
+-- `CursorPlace::assign_store_suffix` meets its contract: what the copy leaves is the definition's.
 use Rattle.base.specs.Kit.{needs}
 use Rattle.base.proofs.Needs.{four}
 use Rattle.cursor.specs.CursorKey.{storeSuffix}

@@ -1,4 +1,4 @@
--- `CursorPlace::compare` meets its contract: the code's tests are the definition's, in its order. Assumes nothing.
+-- `CursorPlace::compare` meets its contract: the code's tests are the definition's, in its order.
 use Rattle.base.specs.Kit.{needs}
 use Rattle.base.specs.Pick.{pick}
 use Rattle.base.proofs.Tests.{tests}

@@ -1,4 +1,4 @@
--- `CursorPlace::compare_suffix` meets its contract: byte order of what `suffix` gives. Assumes nothing.
+-- `CursorPlace::compare_suffix` meets its contract: byte order of what `suffix` gives.
 use Rattle.base.specs.Kit.{needs}
 use Rattle.cursor.proofs.cursor_key.CursorPlace.compare_suffix.Statement.{statement}
 use Rattle.cursor.proofs.cursor_key.CursorPlace.compare_suffix.Tie as tie

@@ -1,4 +1,4 @@
--- `CursorPlace::has_suffix` meets its contract: the code's test is the definition's. Assumes nothing.
+-- `CursorPlace::has_suffix` meets its contract: the code's test is the definition's.
 use Rattle.base.specs.Kit.{needs}
 use Rattle.cursor.specs.CursorKey.{hasSuffix}
 use Rattle.cursor.proofs.cursor_key.CursorPlace.has_suffix.Statement.{statement}

@@ -1,4 +1,4 @@
--- `CursorPlace::shift_clear` meets its contract: the place that it makes is the definition's. Assumes nothing.
+-- `CursorPlace::shift_clear` meets its contract: the place that it makes is the definition's.
 use Rattle.base.specs.Kit.{needs}
 use Rattle.cursor.specs.CursorKey.{shiftClear}
 use Rattle.cursor.proofs.cursor_key.CursorPlace.shift_clear.Statement.{statement}

@@ -1,5 +1,5 @@
 -- `CursorPlace::suffix` meets its contract: `part_of` gives the part in either case, the empty one where the key ends
--- within the layer's eight bytes. Assumes nothing.
+-- within the layer's eight bytes.
 use Rattle.base.specs.Kit.{needs}
 use Rattle.base.proofs.Needs.{three}
 use Rattle.base.specs.Pick.{pick}

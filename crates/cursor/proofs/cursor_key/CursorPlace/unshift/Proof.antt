@@ -1,4 +1,4 @@
--- `CursorPlace::unshift` meets its contract: the ikey is that of the eight bytes that `part_of` gives. Assumes nothing.
+-- `CursorPlace::unshift` meets its contract: the ikey is that of the eight bytes that `part_of` gives.
 use Rattle.base.specs.Kit.{needs}
 use Rattle.base.proofs.Needs.{three}
 use Rattle.cursor.specs.CursorKey.{unshift}
