@@ -13,7 +13,7 @@ import sys
 
 from images import EDITION, IDENTITY, LENGTH, ROOT, SAMPLES, changed, in_leaf, layers, suffixed, trailer, tree_a, tree_b, two_leaves
 from layout import Leaf, Slot, build, ikey
-from requests import ABOVE, EXCLUDED, FOREIGN, FROM, INCLUDED, MOVES, SHORT, TOTAL, request
+from requests import ABOVE, CHECK, EXCLUDED, FOREIGN, FROM, INCLUDED, LENT, MOVES, SHORT, TOTAL, request
 
 
 def surveyed():
@@ -60,6 +60,9 @@ def stepping():
     01 lists under it, once the walk comes there, and 23 where `next` leads an empty leaf to itself for ever."""
     a = build(tree_a())
     request("foreign-length", a, FROM, form=FOREIGN)
+    request("lent-P2", a, FROM, form=LENT)
+    request("lent-P5", build(tree_b()), FROM, form=LENT)
+    request("lent-P8", build(tree_b()), FROM, kind=EXCLUDED, bound=b"entrance.1", form=LENT)
     request("root-0", trailer(a, ROOT, 0), FROM)
     request("root-no-multiple-of-8", trailer(a, ROOT, 12), FROM)
     request("version-bit-29", changed(tree_a(), "<I", in_leaf(0), 1 << 31 | 1 << 29), FROM)
@@ -167,6 +170,24 @@ def whole_names_altered():
     resume("length-257", a, FROM, b"a", {LEN: 257})
 
 
+def over_c():
+    """The check and the tally over the C interface, with the numbers of each and which is tried first."""
+    a, b = build(tree_a()), build(tree_b())
+    dead = build(Leaf(Slot(b"a", 1, live=False), Slot(b"b", 2)))
+    for name, image in (("a", a), ("b", b), ("dead", dead), ("no-bytes", b""), ("length-432", a[:432]), ("edition-2", trailer(a, EDITION, 2)),
+                        ("root-0", trailer(a, ROOT, 0)), ("keylenx-9", changed(tree_a(), "<B", in_leaf(136 + 2), 9))):
+        resume("check-" + name, image, ABOVE, b"", form=CHECK)
+        resume("tally-" + name, image, ABOVE, b"", form=TOTAL)
+    resume("tally-above-a", a, ABOVE, b"a", form=TOTAL)
+    resume("tally-above-1", b, ABOVE, b"entrance.1", form=TOTAL)
+    resume("tally-included", b, ABOVE, b"", kind=INCLUDED, bound=b"entrance.1", form=TOTAL)
+    resume("tally-excluded", b, ABOVE, b"", kind=EXCLUDED, bound=b"entrance.1", form=TOTAL)
+    resume("tally-11", a, ABOVE, b"a" * 257, kind=3, bound=bytes(257), form=TOTAL)
+    resume("tally-12", a, ABOVE, b"", kind=3, bound=bytes(257), form=TOTAL)
+    resume("tally-13", a, ABOVE, b"", bound=bytes(257), form=TOTAL)
+    resume("tally-3-before-11", trailer(a, ROOT, 0), ABOVE, b"a" * 257, form=TOTAL)
+
+
 def whole():
     """The longest key, the deepest layer and the samples, each walked to its end."""
     request("suffix-of-248", build(suffixed(248)), FROM)
@@ -185,6 +206,7 @@ def main():
         whole_names()
         whole_names_any_image()
         whole_names_altered()
+        over_c()
     else:
         sys.exit(__doc__)
 

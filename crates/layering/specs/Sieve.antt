@@ -33,7 +33,7 @@ isAbove cursor key = isLess (byteOrder cursor key)
 unfoldable pub isFrom : List ℕ → List ℕ → Bool
 isFrom cursor key = isNotGreater (byteOrder cursor key)
 
--- THE ROW: "exactly the live keys past the start that the bound admits, each once, ascending, with values".
+-- THE ROW: the live keys past the start that the bound admits, with their values.
 unfoldable pub past : StartMode → List ℕ → List ℕ → Bool
 past Above cursor key = isAbove cursor key
 past From cursor key = isFrom cursor key

@@ -1,7 +1,7 @@
 // 02's examples of a walk, executed over the C interface: the requests of tools/examples.py (see `requests`). Behind each stand its
 // alterations, their length in two bytes first: the walk's record is altered by them before the first step, so that walks which no
-// placing gives can be asked for. Every step is printed with its moves; where one is declined, with the record after it. A request's
-// form is not looked at.
+// placing gives can be asked for. Every step is printed with its moves; where one is declined, with the record after it. A request in form
+// 3 asks for the tally, in form 4 for the check, and nothing else is looked at then but what they take.
 use node::le;
 use requests::Read;
 use requests::first;
@@ -18,6 +18,11 @@ const MOST: usize = 1000;
 const WIDTH: usize = 10;
 
 const BUFFER: usize = 256;
+
+// The forms of a request that ask for no walk.
+const TOTAL: u8 = 3;
+
+const CHECK: u8 = 4;
 
 // The steps of one request: more than are asked for.
 const STEPS: usize = 100;
@@ -144,12 +149,50 @@ fn run(
     }
 }
 
+// The check's number, and its three numbers.
+fn check(name: &[u8], image: &[u8]) {
+    let mut counts = [7u64; 3];
+    let code = punchbronze::pb_check(image, &mut counts);
+    put(name);
+    item(b" check ", code as u64);
+    item(b" leaves ", counts[0]);
+    item(b" values ", counts[1]);
+    item(b" layers ", counts[2]);
+    put(b"\n");
+}
+
+// The tally's number, and its count.
+fn tally(name: &[u8], kind: u8, cursor: &[u8], bound_key: &[u8], image: &[u8]) {
+    let mut out = [7u64; 1];
+    let code = punchbronze::pb_tally(image, cursor, kind, bound_key, &mut out);
+    put(name);
+    item(b" tally ", code as u64);
+    item(b" count ", out[0]);
+    put(b"\n");
+}
+
 // A request's answers, its alterations read first; false where the input has none.
-fn altered(name: &[u8], mode: u8, kind: u8, cursor: &[u8], bound_key: &[u8], image: &[u8]) -> bool {
+fn altered(
+    name: &[u8],
+    form: u8,
+    mode: u8,
+    kind: u8,
+    cursor: &[u8],
+    bound_key: &[u8],
+    image: &[u8],
+) -> bool {
     let mut changes = [0u8; 512];
     let Read::Number(n) = requests::field(&mut changes, 2) else {
         return false;
     };
+    if form == CHECK {
+        check(name, image);
+        return true;
+    }
+    if form == TOTAL {
+        tally(name, kind, cursor, bound_key, image);
+        return true;
+    }
     run(
         name,
         mode,
@@ -173,6 +216,7 @@ fn one(image: &mut [u8]) -> bool {
     let bound = r.bound;
     altered(
         first(&name, r.name_len),
+        r.form,
         r.mode,
         r.kind,
         first(&cursor, r.cursor_len),

@@ -12,6 +12,7 @@ use requests::put_hex;
 use verify::Checked;
 use walk::scan_state::Answer;
 use walk::scan_state::Placed;
+use walk::scan_state::Stepped;
 use walk::scan_state::Walk;
 
 // The requests: more than there are.
@@ -31,6 +32,9 @@ const CHECK: u8 = 4;
 
 // 5: every step with its moves and the walk's state after it, and no name.
 const STATES: u8 = 5;
+
+// 6: as 1, by the lent form of the step.
+const LENT: u8 = 6;
 
 // The placing of a request: mode 0 is above, 1 from, and any other the short form.
 fn placed(mode: u8, kind: u8, cursor: &[u8], bound: &[u8], image: &[u8]) -> Placed {
@@ -131,9 +135,17 @@ fn ending(name: &[u8], form: u8, keys: usize, moves: usize) {
     }
     put(name);
     put(b" none\n");
-    if form == MOVES {
+    if form == MOVES || form == LENT {
         line(name, b" moves ", moves);
     }
+}
+
+// A step, in the form that is asked for.
+fn step_in(form: u8, walk: Walk, image: &[u8]) -> Stepped {
+    if form == LENT {
+        return lent::step_over(walk, image);
+    }
+    scan::step::step(walk, image)
 }
 
 // A step over an image eight bytes shorter: its number, and the walk after it.
@@ -158,7 +170,7 @@ fn answers(name: &[u8], form: u8, walk: Walk, image: &[u8]) {
         if form == FOREIGN {
             w = foreign(name, w, image);
         }
-        let s = scan::step::step(w, image);
+        let s = step_in(form, w, image);
         let answer = s.answer;
         w = s.walk;
         moves = std::num::wrapping_add_usize(moves, s.moves);
@@ -167,7 +179,7 @@ fn answers(name: &[u8], form: u8, walk: Walk, image: &[u8]) {
         }
         match answer {
             Answer::Key { len, value } => {
-                if form < TOTAL {
+                if form < TOTAL || form == LENT {
                     key_line(name, w, len, value);
                 }
             }

@@ -54,7 +54,7 @@ isUp loop.FindNext = false
 isUp loop.Down = false
 isUp loop.Up = true
 
--- "Up: ends on an empty stack, else pop": what a pass is made from.
+-- "Up: ends on an empty stack; else pop": what a pass is made from.
 unfoldable pub before : ScanState → Scan → Scan
 before z s = pick (isUp z) (record { ctx = popped (s .ctx) (s .stack); buf = s .buf; stack = unstacked (s .ctx) (s .stack) }) s
 

@@ -1,6 +1,6 @@
 #!/bin/sh
 # Builds the oracle, offline:   build.sh SOURCE-FOLDER [--debug-assertions]
-# SOURCE-FOLDER holds the repository's src/. Its files are copied to target/oracle/ of this project, which git ignores, one line is
+# SOURCE-FOLDER is the repository's src/ itself. Its files are copied to target/oracle/ of this project, which git ignores, one line is
 # put into one of them, and every other copy is compared byte for byte. Where nothing has changed since the last build, nothing is
 # done.
 set -eu
