@@ -1,16 +1,18 @@
 /* The forward scan of a Masstree image, for C.
  *
  * The library is `target/staticlib/libpunchbronze.a`, which `rt staticlib punchbronze` writes. Behind this header stand proved
- * functions and nothing else: crates/punchbronze/src/lib.rt has their contracts, specs/Record.antt the record of a walk, and
- * specs/Interface.antt what each call returns and leaves.
+ * functions and nothing else: crates/punchbronze/src/lib.rt has their contracts, specs/Interface.antt beside it
+ * what each call returns and leaves, and crates/walk_record/specs/Record.antt the record of a walk.
  *
  * A slice is a pointer and then a length, which counts elements and not bytes. What C must see to, since nothing can check it:
  *   - a pointer is not NULL, is aligned for its type and is good for its length, also where that is 0;
  *   - what a call writes (the slices that are not const) overlaps no other slice of the same call.
  * Anything else may be passed: every image, every length, every record, however damaged, gets one of the numbers below.
  *
- * Every function returns 0 or the number of a decline. A call that is declined writes nothing, but for a placing with 1, 2, 11, 12
- * or 13, which leaves the all-zero ended walk in the record. No function keeps a pointer, takes memory or fails otherwise.
+ * Every function returns 0 or the number of a decline. What a call says goes into counts or out, where that has the length named
+ * below, and then it is always written: zeros where the call is declined. One of another length stays as it was. A walk's record
+ * stays as it was where a step is declined, or a placing with 21; a placing declined with 1, 2, 11, 12 or 13 leaves the all-zero ended
+ * walk in it. No function keeps a pointer, takes memory or fails otherwise.
  */
 #ifndef PUNCHBRONZE_H
 #define PUNCHBRONZE_H
@@ -60,8 +62,8 @@ typedef struct pb_walk {
 } pb_walk;
 
 /* Checks an image. Returns 0 where it is accepted, and then counts is { leaves, value slots, sub-layers }; else the number of the
- * first fault: 1 and 2 for its length and trailer, 3 to 10 for its tree. counts stays as it was on a fault, and where its length is
- * not 3. */
+ * first fault, 1 and 2 for its length and trailer, 3 to 10 for its tree, and then counts is { 0, 0, 0 }. counts stays as it was where
+ * its length is not 3. */
 uint8_t pb_check(const uint8_t *image, size_t image_len, uint64_t *counts, size_t counts_len);
 
 /* Places a walk above a cursor: it will hand out the keys past the cursor, in byte order, up to the bound. A cursor is any key of up
@@ -80,7 +82,8 @@ uint8_t pb_place_from(const uint8_t *image, size_t image_len, const uint8_t *cur
                       size_t buf_len, uint8_t *bound, size_t bound_len);
 
 /* One key further. Returns 0, and then out is { 1 for a key or 0 for none, key length, value, moves }, and numbers and buf are those
- * of the walk after the step; the bound is not changed by a step. Else numbers, buf and out stay as they were, and the number is
+ * of the walk after the step; the bound is not changed by a step. Else numbers and buf stay as they were, out is { 0, 0, 0, 0 }, or
+ * stays as it was where its length is not 4, and the number is
  *   21  the record is no walk's (lengths other than 74, 256 and 256, numbers[PB_KIND] over 255, numbers[PB_STATE] over 3,
  *       numbers[PB_MODE] over 1), or it is out of range (image length not image_len, depth over 31, offset not 8 * depth, offset plus length over 256, position
  *       over 15, kind over 2, bound length over 256), or the length of out is not 4;
@@ -92,7 +95,7 @@ uint8_t pb_step(uint64_t *numbers, size_t numbers_len, uint8_t *buf, size_t buf_
                 const uint8_t *image, size_t image_len, uint64_t *out, size_t out_len);
 
 /* How many keys a walk above a cursor hands out. Returns 0, and then out is { count }; else the check's number, or 11, 12 or 13 as a
- * placing. out stays as it was on a decline, and where its length is not 1. */
+ * placing, and then out is { 0 }. out stays as it was where its length is not 1. */
 uint8_t pb_tally(const uint8_t *image, size_t image_len, const uint8_t *cursor, size_t cursor_len, uint8_t kind,
                  const uint8_t *bound_key, size_t bound_key_len, uint64_t *out, size_t out_len);
 

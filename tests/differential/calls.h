@@ -1,6 +1,6 @@
 /* The five functions as guard.c calls them: each at both sides over equal bytes, its answer held to what documents 01 and 02 [1]
  * and the header say of it. A call must return and leave the same at both sides, its number must be one that 01 has for it, and
- * where it is declined, what it was lent must stay as it was. */
+ * where it is declined, the zeros must be there that it says then, and all else that it was lent must stay as it was. */
 #ifndef CALLS_H
 #define CALLS_H
 
@@ -78,6 +78,18 @@ static void count_start(const uint64_t *before, const uint64_t *after, int code)
     }
 }
 
+/* What a declined call leaves of the lent output: zeros in its n places, where it was lent n; else, as any call with another length,
+ * what was there. `all` numbers are compared, those behind the lent ones too. */
+static void must_say(int code, const uint64_t *before, const uint64_t *after, size_t len, size_t n, size_t all, const char *fault)
+{
+    uint64_t due[8];
+    memcpy(due, before, all * sizeof *due);
+    if (len == n) {
+        memset(due, 0, n * sizeof *due);
+    }
+    must((code == 0 && len == n) || memcmp(after, due, all * sizeof *due) == 0, fault);
+}
+
 static int check(uint64_t counts[4], size_t counts_len)
 {
     uint64_t after[SIDES][4];
@@ -91,7 +103,7 @@ static int check(uint64_t counts[4], size_t counts_len)
     int early = heading();
     must(code[0] == code[1] && memcmp(after[0], after[1], sizeof after[0]) == 0, "two checks differ");
     must(early ? code[0] == early : code[0] == 0 || (code[0] >= 3 && code[0] <= 10), "the check's number");
-    must((code[0] == 0 && counts_len == 3) || memcmp(after[0], counts, sizeof after[0]) == 0, "a declined check wrote");
+    must_say(code[0], counts, after[0], counts_len, 3, 4, "what a declined check left");
     memcpy(counts, after[0], sizeof after[0]);
     met[CHECKS][code[0]]++;
     return code[0];
@@ -180,7 +192,8 @@ static int step(struct walk *w, uint64_t out[8], size_t out_len)
     must(code[0] == 0 || (code[0] >= 21 && code[0] <= 23), "the step's number");
     must((code[0] == 21) == is_foreign(w, out_len), "21 at the wrong place");
     if (code[0] != 0) {
-        must(memcmp(&after[0], w, sizeof *w) == 0 && memcmp(said[0], out, sizeof said[0]) == 0, "a declined step wrote");
+        must(memcmp(&after[0], w, sizeof *w) == 0, "a declined step changed the record");
+        must_say(code[0], out, said[0], out_len, 4, 8, "what a declined step left");
     } else {
         const uint64_t *s = said[0];
         must(s[0] <= 1 && s[1] <= 256 && s[3] <= image_len, "what a step said");
@@ -206,7 +219,7 @@ static int tally(int checked, const struct ask *a, uint64_t out[2], size_t out_l
         memcpy(after[side], out, sizeof after[side]);
         memcpy(after[side], o, out_len * sizeof *o);
         must(code == due, "the tally's number");
-        must((due == 0 && out_len == 1) || memcmp(after[side], out, sizeof after[side]) == 0, "a declined tally wrote");
+        must_say(due, out, after[side], out_len, 1, 2, "what a declined tally left");
         must_keep(a, cursor, key);
     }
     must(memcmp(after[0], after[1], sizeof after[0]) == 0, "two tallies differ");

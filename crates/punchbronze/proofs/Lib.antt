@@ -1,2 +1,3 @@
--- The lemma file of this crate.
+-- The lemma files of this crate; `Placing` is a theorem.
+pub mod Lent
 pub mod Placing

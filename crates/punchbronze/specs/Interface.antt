@@ -1,16 +1,21 @@
--- What the functions that C calls return, and what they leave in each slice that is lent to them; `pb_step` does what
--- record_step/specs/Step.antt says.
+-- What the functions that C calls return, and what they leave in each slice that is lent to them. LENT OUTPUT is treated one way (01: "A
+-- declined call returns its number, zero elsewhere"): where it has the length of what is to be said, it is written, with zeros where the
+-- call is declined; where it has another length, it stays.
 use Rattle.base.specs.Kit.{Bool, List, [], _∷_, _≡_, ℕ, eqb, length}
 use Rattle.base.specs.Pick.{pick}
 use Rattle.punchbronze.specs.Types.{Checked, Placed, Tallied}
-use Rattle.verify.specs.declared.Checked.the-variants as checked
-use Rattle.survey.specs.declared.Tallied.the-variants as tallied
+use Rattle.verify.specs.Check.{countsOf}
+use Rattle.survey.specs.Tally.{countOf}
 use Rattle.walk_record.specs.Record.{numbersOf, sized}
+use Rattle.walk.specs.Walk.{answerNumbers}
+use Rattle.record_step.specs.Step.{stepOf, stepNumber, stepNumbers, stepBuf}
 
--- THE CHECK. The three numbers of an accepted image, where there is room for three and no more; else the slice stays.
+-- THE CHECK. Its three numbers: leaves, value slots, sub-layers.
+unfoldable pub countNumbers : Checked → List ℕ
+countNumbers c = countsOf c .leaves ∷ countsOf c .«value_slots» ∷ countsOf c .«sub_layers» ∷ []
+
 unfoldable pub countsAfter : Checked → List ℕ → List ℕ
-countsAfter (checked.Accepted leaves values layers) counts = pick (eqb (length counts) 3) (leaves ∷ values ∷ layers ∷ []) counts
-countsAfter (checked.Declined n) counts = counts
+countsAfter c counts = pick (eqb (length counts) 3) (countNumbers c) counts
 
 -- A PLACING. 21 where the lent record has not a record's lengths, and then it stays; else the placing's number, and its walk.
 abbrev pub fitting : List ℕ → List ℕ → List ℕ → Bool
@@ -34,7 +39,22 @@ pub record PutPlaced (p : Placed) (numbers buf bound : List ℕ) (r : ℕ) (numb
   pub buf-left : buf′ ≡ placedBuf p numbers buf bound
   pub bound-left : bound′ ≡ placedBound p numbers buf bound
 
--- A TALLY. The count where there is room for one number and no more; else the slice stays.
+-- A STEP. Its number, and what it leaves of the record, are record_step's (specs/Step.antt there): a declined step leaves the record as it
+-- came, and 21 is also the number where there is no room for the answer. What it says: its answer's four numbers, or four zeros.
+unfoldable pub saidNumbers : List ℕ → List ℕ → List ℕ → List ℕ → List ℕ → List ℕ
+saidNumbers numbers buf bound image out =
+    let s = stepOf numbers buf bound image in
+    pick (eqb (stepNumber numbers buf bound image out) 0) (answerNumbers (s .answer) (s .moves)) (0 ∷ 0 ∷ 0 ∷ 0 ∷ [])
+
+unfoldable pub outAfter : List ℕ → List ℕ → List ℕ → List ℕ → List ℕ → List ℕ
+outAfter numbers buf bound image out = pick (eqb (length out) 4) (saidNumbers numbers buf bound image out) out
+
+pub record StepLeft (numbers buf bound image out : List ℕ) (r : ℕ) (numbers′ buf′ out′ : List ℕ) : Type 0 where
+  pub number : r ≡ stepNumber numbers buf bound image out
+  pub numbers-left : numbers′ ≡ stepNumbers numbers buf bound image out
+  pub buf-left : buf′ ≡ stepBuf numbers buf bound image out
+  pub out-left : out′ ≡ outAfter numbers buf bound image out
+
+-- A TALLY. Its count.
 unfoldable pub countAfter : Tallied → List ℕ → List ℕ
-countAfter (tallied.Counted n) out = pick (eqb (length out) 1) (n ∷ []) out
-countAfter (tallied.Declined n) out = out
+countAfter t out = pick (eqb (length out) 1) (countOf t ∷ []) out

@@ -1,26 +1,31 @@
--- `pb_step` meets its contract: the two tests stand in the order of the definition, and then the step is the record's.
+-- `pb_step` meets its contract: the step's number decides whether its answer or zeros are left. Assumes nothing.
 use Rattle.base.specs.Kit.{needs}
-use Rattle.base.proofs.Choice.{found-so, found-not}
-use Rattle.record_step.proofs.Steps.{no-room, no-record}
+use Rattle.punchbronze.proofs.Lent.{says, declines}
 use Rattle.punchbronze.proofs.pb_step.Statement.{statement}
 use Rattle.punchbronze.proofs.pb_step.Tie as tie
 
-step-record-requires : tie.Need-step-record-requires
-step-record-requires c κs =
-    let test = c .before .before .before in
-    (test .before .before .before .before .if1 .left, found-so _ _ (test .before .is-record .ensures) (test .if2 .left))
+returns : tie.Need-returns
+returns c =
+    says _ _ _ _ _ _ _ _ _ (c .before .before .before .before .before .before .before .step-lent .ensures) (c .if1 .taken)
+
+returns-2 : tie.Need-returns-2
+returns-2 c =
+    let put = c .before .before in
+    let test = put .before .before .before in
+    declines _ _ _ _ _ _ _ _ _ (test .before .before .before .before .before .before .before .step-lent .ensures) (test .if1 .left) _ (put .put-out .ensures)
 
 pub pb-step-spec : {M : Type 1} → statement M
 pb-step-spec =
     tie.close
     (tie.spec
-    (λ c. no-room _ _ _ _ _ (c .if1 .taken))
     (λ c κs. search needs)
     (λ c. search needs)
     (λ c. search needs)
-    (λ c. no-record _ _ _ _ _ (c .before .before .before .before .if1 .left) (found-not _ _ (c .before .is-record .ensures) (c .if2 .taken)))
-    step-record-requires
+    (λ c. search needs)
+    returns
+    (λ c. search needs)
+    (λ c κs. search needs)
     (λ c. search needs)
     (λ c. search needs)
     (λ c. search needs)
-    (λ c. c .before .before .before .before .before .before .step-record .ensures))
+    returns-2)

@@ -1,35 +1,19 @@
--- `pb_tally` meets its contract: the answer decides, and then the length of the lent slice.
-use Rattle.base.specs.Kit.{sym, _∙_, eq-eqb, ne-eqb, needs}
-use Rattle.base.proofs.Needs.{five}
-use Rattle.base.specs.Pick.{pick}
-use Rattle.survey.specs.Tally.{numberOf}
-use Rattle.punchbronze.specs.Interface.{countAfter}
+-- `pb_tally` meets its contract: the number and the count are the tally's. Assumes nothing.
+use Rattle.base.specs.Kit.{ap, _∙_, [], _∷_, needs}
+use Rattle.punchbronze.specs.Types.{Tallied}
+use Rattle.survey.specs.Tally.{numberOf, countOf}
+use Rattle.punchbronze.proofs.Lent.{count-put}
 use Rattle.punchbronze.proofs.pb_tally.Statement.{statement}
 use Rattle.punchbronze.proofs.pb_tally.Tie as tie
 
 returns : tie.Need-returns
-unfolding numberOf countAfter pick
 returns c =
-    let e = sym (c .before .before .before .tally .ensures) ∙ c .before .tallied .given .1 in
-    (rw e, rw e)
-
-returns-2 : tie.Need-returns-2
-unfolding numberOf countAfter pick
-returns-2 c =
-    let e = sym (c .before .before .before .before .before .before .before .before .before .tally .ensures) ∙ c .before .before .before .before .before .before .before .tallied2 .given .1 in
-    (rw e, rw (e, eq-eqb _ _ (c .before .before .before .before .before .if1 .taken)) (c .before .before .copy-words .ensures))
-
-returns-3 : tie.Need-returns-3
-unfolding numberOf countAfter pick
-returns-3 c =
-    let e = sym (c .before .before .before .before .tally .ensures) ∙ c .before .before .tallied2 .given .1 in
-    (rw e, rw (e, ne-eqb _ _ (c .if1 .left)))
+    let put = c .before .before .before in
+    let count = put .before .before .before in
+    let e = count .before .tally .ensures in
+    (c .tally-number .ensures ∙ ap numberOf e, count-put _ _ _ _ (count .tally-count .ensures ∙ ap (λ (t : Tallied). countOf t ∷ []) e) (put .put-out .ensures))
 
 pub pb-tally-spec : {M : Type 1} → statement M
 pb-tally-spec =
     tie.close
-    (five tie.spec (search needs)
-    returns
-    (λ c. search needs)
-    returns-2
-    returns-3)
+    (tie.spec (λ c κs. search needs) (λ c κs. search needs) (λ c. search needs) (λ c κs. search needs) (λ c κs. search needs) (λ c. search needs) returns)
