@@ -1,8 +1,10 @@
 #!/usr/bin/env python3
-"""Writes the requests that crates/walk_table runs, from document 01's surveyed examples, and those of crates/records, from 02's.
+"""Writes the requests that crates/walk_table runs, from document 01's surveyed examples, those of crates/records, from 02's, and those
+of crates/sheet_table, whose answers are whole sheets.
 
     tools/examples.py > crates/walk_table/stdin
     tools/examples.py records > crates/records/stdin
+    tools/examples.py sheets > crates/sheet_table/stdin
 
 A request is a name, a form, the arguments of a placing and an image; for crates/records also what is altered of the walk's record.
 The answers are written by hand in crates/walk_table/stdout and crates/records/stdout: keys, values and numbers from 01's and 02's
@@ -11,7 +13,7 @@ counts. Nothing here works them out.
 """
 import sys
 
-from images import EDITION, IDENTITY, LENGTH, ROOT, SAMPLES, changed, in_leaf, layers, suffixed, trailer, tree_a, tree_b, two_leaves
+from images import EDITION, IDENTITY, LENGTH, ROOT, SAMPLES, changed, in_leaf, layers, nested, suffixed, trailer, tree_a, tree_b, two_leaves
 from layout import Leaf, Slot, build, ikey
 from requests import ABOVE, CHECK, EXCLUDED, FOREIGN, FROM, INCLUDED, LENT, MOVES, SHORT, TOTAL, request
 
@@ -196,6 +198,18 @@ def whole():
         request("sample-" + name, image(), FROM, form=TOTAL)
 
 
+def sheets():
+    """Images whose sheets are printed: A, B with its layer, dead slots, several leaves, no keys, the longest line, and two that are
+    declined."""
+    for name in ("a", "b", "dead"):
+        request(name, SAMPLES[name]())
+    request("nested", build(nested()))
+    request("no-keys", build(Leaf()))
+    request("longest-line", build(Leaf(Slot(K8, 2**64 - 1, suffix=b"k" * 248))))
+    request("damaged", SAMPLES["damaged"]())
+    request("no-bytes", b"")
+
+
 def main():
     if sys.argv[1:] == []:
         surveyed()
@@ -207,6 +221,8 @@ def main():
         whole_names_any_image()
         whole_names_altered()
         over_c()
+    elif sys.argv[1:] == ["sheets"]:
+        sheets()
     else:
         sys.exit(__doc__)
 

@@ -1,0 +1,10 @@
+-- `listed::first_line` meets its contract: sheet writes the line. Assumes nothing.
+use Rattle.base.specs.Kit.{needs}
+use Rattle.listed.specs.Lines.{blank}
+use Rattle.listed.proofs.LineLaws.{line-made}
+use Rattle.listed.proofs.first_line.Statement.{statement}
+use Rattle.listed.proofs.first_line.Tie as tie
+
+pub first-line-spec : {M : Type 1} → statement M
+unfolding blank
+first-line-spec = tie.close (tie.spec (λ c. search needs) (λ c κs. search needs) (λ c. line-made _ _ _ _ (c .before .first-line .ensures)))
