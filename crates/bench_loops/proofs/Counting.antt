@@ -11,7 +11,7 @@ use Rattle.walk.specs.declared.scan_state.Walk.{Walk}
 use Rattle.walk.specs.declared.scan_state.Answer.{Answer}
 use Rattle.walk.specs.declared.scan_state.Answer.the-variants.{Key, Nothing, Declined}
 use Rattle.walk.specs.declared.scan_state.Stepped.{Stepped}
-use Rattle.bench_loops.specs.Counting.{countKey, keysFrom, keysAbove}
+use Rattle.bench_loops.specs.CodeCounting.{countKey, keysFrom, keysAbove}
 
 -- THE INVARIANT of a loop that began at the walk w₀: the keys counted and those still to be counted are all of them.
 abbrev pub Counts : List ℕ → Walk → Walk → ℕ → Type 0

@@ -9,8 +9,8 @@ use walk::scan_state::Walk;
 ghost use Rattle.base.specs.Kit.{_≡_, [], length};
 ghost use Rattle.cursor.specs.declared.range_bound.StartMode.the-variants.{Above};
 ghost use Rattle.walk.specs.Placing.{place};
-ghost use Rattle.scan.specs.Loop.{keysLeft};
-ghost use Rattle.bench_loops.specs.Counting.{keysFrom, keysAbove};
+ghost use Rattle.scan.specs.CodeLoop.{keysLeft};
+ghost use Rattle.bench_loops.specs.CodeCounting.{keysFrom, keysAbove};
 
 // A walk above the empty cursor, unbounded.
 fn place_all(image: &[u8]) -> Placed

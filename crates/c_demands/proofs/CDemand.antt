@@ -5,7 +5,7 @@ use Rattle.base.specs.Kit.{_≡_, ap, sym, _∙_, Bool, true, List, ℕ, _≤_,
 use Rattle.base.specs.Pick.{pick}
 use Rattle.base.proofs.Choice.{by-test}
 use Rattle.layering.specs.Sieve.{rowOf}
-use Rattle.verify.specs.Check.{numberOf, check}
+use Rattle.verify.specs.Check.{checkNumber, check}
 use Rattle.walk.specs.Placing.{place}
 use Rattle.walk_record.specs.Record.{numbersOf}
 use Rattle.demands.specs.Demand.{due}
@@ -42,7 +42,7 @@ module _ (p : Placed) (numbers buf bound numbers′ buf′ bound′ : List ℕ) 
 
 -- Over an image of bytes whose check gives 0; a lent record, whatever it held, and what a placing in either mode that returned 0 left of it
 -- (`PutPlaced`); and any list of calls, each lent that image or bytes of another length (`CLent`), and any output.
-pub c-demand-3 : (image : List ℕ) → ((i : ℕ) → getD image i 0 < 256) → numberOf (check image) ≡ 0
+pub c-demand-3 : (image : List ℕ) → ((i : ℕ) → getD image i 0 < 256) → checkNumber (check image) ≡ 0
     → (mode : StartMode) (cursor : List ℕ) → ((i : ℕ) → getD cursor i 0 < 256) → (kind : ℕ) (key : List ℕ)
     → (numbers buf bound numbers′ buf′ bound′ : List ℕ) → PutPlaced (place image mode cursor kind key) numbers buf bound 0 numbers′ buf′ bound′
     → (calls : List CCall) → CLent image calls → CDemand3 image mode cursor kind key numbers′ buf′ bound′ calls
@@ -65,7 +65,7 @@ c-demand-3 image b a mode cursor bc kind key numbers buf bound numbers′ buf′
     })
 
 -- COROLLARY. Over an accepted image a placing into a record of a record's lengths returns 0 where cursor, kind and bound key are in their limits.
-pub is-placed : (image : List ℕ) → numberOf (check image) ≡ 0 → (mode : StartMode) (cursor : List ℕ) (kind : ℕ) (key numbers buf bound : List ℕ)
+pub is-placed : (image : List ℕ) → checkNumber (check image) ≡ 0 → (mode : StartMode) (cursor : List ℕ) (kind : ℕ) (key numbers buf bound : List ℕ)
     → fitting numbers buf bound ≡ true → length cursor ≤ 256 → kind ≤ 2 → length key ≤ 256
     → placedNumber (place image mode cursor kind key) numbers buf bound ≡ 0
 unfolding placedNumber pick

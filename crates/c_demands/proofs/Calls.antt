@@ -1,6 +1,6 @@
 -- Calls of `pb_step` follow steps of the walk that the record reads back as. Proved: what a call that meets its contract leaves is `cStep`'s;
 -- that what a list of calls says and costs is what the steps say and cost; and that the calls that step no walk change nothing. A call with
--- no room for the answer follows a step that is lent another length. Assumes nothing.
+-- no room for the answer follows a step that is lent another length.
 use Rattle.base.specs.Kit.{_≡_, refl, ap, ap₂, sym, _∙_, true, false, not, and-true, and-false, List, [], _∷_, _⊎_, inr, ℕ, _+_, arith, eqb, length, take, eqb-true, eqb-false, eq-eqb, ne-eqb}
 use Rattle.base.specs.Pick.{pick}
 use Rattle.base.proofs.Choice.{pick-ind, by-test}

@@ -4,7 +4,7 @@ use Rattle.base.specs.Kit.{Bool, false, not, _&&_, List, [], _∷_, _⊎_, _≡
 use Rattle.base.specs.Pick.{pick}
 use Rattle.layering.specs.Ascending.{Ascending}
 use Rattle.layering.specs.Sieve.{rowOf}
-use Rattle.verify.specs.Check.{countsOf, check}
+use Rattle.verify.specs.Check.{checkCounts, check}
 use Rattle.record_step.specs.Step.{stepNumber, stepNumbers, stepBuf}
 use Rattle.demands.specs.Demand.{Said, handsOut, none, declines, due}
 use Rattle.punchbronze.specs.Interface.{outAfter}
@@ -91,4 +91,4 @@ pub record CDemand3 (image : List ℕ) (mode : StartMode) (cursor : List ℕ) (k
   pub foreign : CForeign image numbers buf bound calls
   pub ascends : Ascending (rowOf image mode cursor kind key)
   pub total : cMovesOf (cSteps numbers buf bound calls)
-      ≤ countsOf (check image) .leaves + countsOf (check image) .«value_slots» + 4 * countsOf (check image) .«sub_layers» + 2
+      ≤ checkCounts (check image) .leaves + checkCounts (check image) .«value_slots» + 4 * checkCounts (check image) .«sub_layers» + 2

@@ -10,7 +10,7 @@ use Rattle.layering.proofs.Walk.{Conf, over, rest, left, pot}
 use Rattle.moves.specs.Moves.{InRange}
 use Rattle.walk.specs.Walk.{numberOf, keysOf, lenOf, valueOf, walkOk}
 use Rattle.scan.specs.Machine.{Ran, run, isEnded, ctxOf, scanOf, finished, advance, step}
-use Rattle.scan.specs.Loop.{runBy, allBy, keysAhead, keysLeft}
+use Rattle.scan.specs.CodeLoop.{runBy, allBy, keysAhead, keysLeft}
 use Rattle.lent.proofs.Same.{step-as}
 use Rattle.demands.specs.Demand.{Call, steps, Lent, Said, handsOut, declines, saidBy, said, movesOf, own, headSaid, tailOf, due, Foreign}
 use Rattle.demands.proofs.Relation.{resumed, Rep}

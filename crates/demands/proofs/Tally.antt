@@ -8,7 +8,7 @@ use Rattle.layering.specs.Keys.{Pair}
 use Rattle.layering.proofs.Sieve.{front}
 use Rattle.layering.proofs.Walk.{Conf, rest, left, pot, MovedRow, emits, quiet, moved as moved-row, falls}
 use Rattle.scan.specs.Machine.{Scan, Moved}
-use Rattle.scan.specs.Loop.{counted, afterBy, runBy}
+use Rattle.scan.specs.CodeLoop.{counted, afterBy, runBy}
 use Rattle.demands.proofs.Relation.{Rep, Follows, goes-on, gives, ends}
 use Rattle.demands.proofs.Follow.{sim}
 use Rattle.demands.proofs.Run.{live}

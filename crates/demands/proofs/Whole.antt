@@ -26,7 +26,7 @@ use Rattle.layering.proofs.Bound.{contains-closed}
 use Rattle.layering.proofs.Walk.{Conf, seek, rest, left, pot}
 use Rattle.walk.specs.Placing.{shortState, startState, placeFault, freshWalk, place}
 use Rattle.scan.specs.Machine.{isEnded, scanOf}
-use Rattle.scan.specs.Loop.{keysLeft}
+use Rattle.scan.specs.CodeLoop.{keysLeft}
 use Rattle.demands.specs.Demand.{Call, steps, Lent, said, movesOf, own, due, Foreign}
 use Rattle.demands.proofs.Begin.{Begun, begin-at}
 use Rattle.demands.proofs.Steps.{admitted, Walks, going, all-steps, keys-left}

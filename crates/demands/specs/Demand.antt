@@ -5,7 +5,7 @@ use Rattle.base.specs.Pick.{pick}
 use Rattle.layering.specs.Keys.{Pair}
 use Rattle.layering.specs.Ascending.{Ascending}
 use Rattle.layering.specs.Sieve.{rowOf}
-use Rattle.verify.specs.Check.{countsOf, check}
+use Rattle.verify.specs.Check.{checkCounts, check}
 use Rattle.walk.specs.Walk.{numberOf, keysOf, lenOf, valueOf}
 use Rattle.walk.specs.Placing.{place}
 use Rattle.lent.specs.Form.{Form, stepAs}
@@ -83,4 +83,4 @@ pub record Demand3 (image : List ℕ) (mode : StartMode) (cursor : List ℕ) (ki
   pub foreign : Foreign image (place image mode cursor kind bound .walk) calls
   pub ascends : Ascending (rowOf image mode cursor kind bound)
   pub total : movesOf (steps (place image mode cursor kind bound .walk) calls)
-      ≤ countsOf (check image) .leaves + countsOf (check image) .«value_slots» + 4 * countsOf (check image) .«sub_layers» + 2
+      ≤ checkCounts (check image) .leaves + checkCounts (check image) .«value_slots» + 4 * checkCounts (check image) .«sub_layers» + 2

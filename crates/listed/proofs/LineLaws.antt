@@ -1,8 +1,8 @@
--- The ways out of the functions, one law for each. Assumes nothing.
+-- The ways out of the functions, one law for each.
 use Rattle.base.specs.Kit.{_≡_, sym, _∙_, ap, subst, List, [], ℕ, _+_, _%_, _^_, _≤_, arith, eqb, length, take, ne-eqb}
 use Rattle.base.specs.Pick.{pick}
 use Rattle.node.specs.Layout.{keyCount}
-use Rattle.verify.specs.Check.{numberOf as checkNumber, check}
+use Rattle.verify.specs.Check.{checkNumber, check}
 use Rattle.verify.proofs.Theorem.{accepted-obeys, declined-number}
 use Rattle.walk.specs.Walk.{numberOf, keysOf, lenOf, valueOf}
 use Rattle.scan.specs.Machine.{step}
@@ -10,7 +10,7 @@ use Rattle.demands.specs.Demand.{saidBy}
 use Rattle.sheet.specs.Sheet.{firstLine, pairLine, lastLine, refused}
 use Rattle.sheet.specs.Written.{writtenLen, writtenOut}
 use Rattle.listed.specs.Types.{Checked, Accepted, CheckedDeclined, Key, Nothing, Declined, Stepped, Walk, Line, Listing, Stage, First, Pairs, Refused, Done}
-use Rattle.listed.specs.Lines.{blank, lineOf, noLine, begun, opened, sumOf, saidLine, stepLine, lineAt, nextLine}
+use Rattle.listed.specs.CodeLines.{blank, lineOf, noLine, begun, opened, sumOf, saidLine, stepLine, lineAt, nextLine}
 
 -- a line that was written
 pub line-made : (text : List ℕ) (l : Listing) (n : ℕ) (d : List ℕ) → (n ≡ writtenLen text blank) × (d ≡ writtenOut text blank)

@@ -12,7 +12,7 @@ use Rattle.layering.proofs.Pairs.{pairs-short}
 use Rattle.layering.proofs.Sieve.{all-sieve}
 use Rattle.layering.proofs.Size.{moves-fit}
 use Rattle.cursor.specs.RangeBound.{contains}
-use Rattle.verify.specs.Check.{numberOf, check}
+use Rattle.verify.specs.Check.{checkNumber, check}
 use Rattle.verify.specs.Acceptance.{treeCounts}
 use Rattle.verify.proofs.Theorem.{accepted-obeys}
 use Rattle.walk.specs.Placing.{place}
@@ -22,7 +22,7 @@ use Rattle.demands.specs.Demand.{Call, steps, Lent, Said, handsOut, none, saidB
 use Rattle.demands.proofs.Demand.{demand-3, is-taken}
 use Rattle.sheet.specs.Sheet.{firstLine, pairLine, pairLines, lastLine, sheet, refused}
 use Rattle.listed.specs.Types.{From, Walk, Listing, First, Pairs, Refused, Done}
-use Rattle.listed.specs.Lines.{lineOf, noLine, begun, opened, sumOf, saidLine, lineAt, nextLine}
+use Rattle.listed.specs.CodeLines.{lineOf, noLine, begun, opened, sumOf, saidLine, lineAt, nextLine}
 use Rattle.listed.specs.Listed.{listedPairs, callsOf, walkMoves, listed, lineCount, linesOf, textOf, numbersOf, Filled, AllLines}
 use Rattle.listed.proofs.Fits.{Fits, written-len, written-text, first-fits, last-fits, refused-fits, pair-fits}
 
@@ -130,7 +130,7 @@ module _ (image : List ℕ) where
   due-ends (x ∷ row) = ap {B = List Said} (λ t. handsOut x ∷ t) (due-ends row)
 
   -- AN ACCEPTED IMAGE
-  accepted-come : ((i : ℕ) → getD image i 0 < 256) → numberOf (check image) ≡ 0 → (n : ℕ)
+  accepted-come : ((i : ℕ) → getD image i 0 < 256) → checkNumber (check image) ≡ 0 → (n : ℕ)
       → Comes (suc (count (listedPairs image) 0)) (suc (count (listedPairs image) n)) (begun (First (keyCount image)) image)
       (sheet (keyCount image) (listedPairs image) (walkMoves image))
   unfolding listedPairs rowOf walkMoves sheet nextLine lineAt begun treeCounts
@@ -169,11 +169,11 @@ pub all-lines : (image : List ℕ) → ((i : ℕ) → getD image i 0 < 256) → 
 unfolding opened lineCount listed pick
 all-lines image b n =
     let row = listedPairs image in
-    by-test (eqb (numberOf (check image)) 0)
+    by-test (eqb (checkNumber (check image)) 0)
     (λ t.
     let k : lineCount image ≡ suc (count image row 0) = rw t (omega (arith, count-is image row 0)) in
     finish image n _ _ (suc (count image row n)) _ (rw t) k (rw t) (omega (arith, count-is image row n, count-is image row 0))
     (accepted-come image b (eqb-true _ 0 t) n))
     (λ f.
     let k : lineCount image ≡ 1 = rw f in
-    finish image n _ _ (suc n) _ (rw f) k (rw f) (omega arith) (declined-come image (numberOf (check image)) n))
+    finish image n _ _ (suc n) _ (rw f) k (rw f) (omega arith) (declined-come image (checkNumber (check image)) n))

@@ -1,4 +1,4 @@
 -- The definition files of this crate.
 pub mod Types
-pub mod Lines
+pub mod CodeLines
 pub mod Listed

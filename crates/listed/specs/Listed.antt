@@ -6,13 +6,13 @@ use Rattle.base.specs.Pick.{pick}
 use Rattle.node.specs.Layout.{keyCount}
 use Rattle.layering.specs.Keys.{Pair}
 use Rattle.layering.specs.Sieve.{rowOf}
-use Rattle.verify.specs.Check.{numberOf, check}
+use Rattle.verify.specs.Check.{checkNumber, check}
 use Rattle.walk.specs.Placing.{place}
 use Rattle.lent.specs.Form.{byValue}
 use Rattle.demands.specs.Demand.{Call, steps, movesOf}
 use Rattle.sheet.specs.Sheet.{sheet, refused}
 use Rattle.listed.specs.Types.{From, Line, Listing}
-use Rattle.listed.specs.Lines.{opened, nextLine}
+use Rattle.listed.specs.CodeLines.{opened, nextLine}
 
 -- The pairs of the sheet: the row from "" on, unbounded.
 unfoldable pub listedPairs : List ℕ → List Pair
@@ -29,12 +29,12 @@ walkMoves image = movesOf (steps (place image From [] 0 [] .walk) (callsOf image
 -- THE SHEET
 unfoldable pub listed : List ℕ → List ℕ
 listed image =
-    let n = numberOf (check image) in
+    let n = checkNumber (check image) in
     pick (eqb n 0) (sheet (keyCount image) (listedPairs image) (walkMoves image)) (refused n)
 
 -- How many lines it has: `refused n`; or the first, one for each pair, and the last.
 unfoldable pub lineCount : List ℕ → ℕ
-lineCount image = pick (eqb (numberOf (check image)) 0) (length (listedPairs image) + 2) 1
+lineCount image = pick (eqb (checkNumber (check image)) 0) (length (listedPairs image) + 2) 1
 
 -- THE LINES that the functions give: those of so many calls of `next_line`, each given the listing as the one before left it. Their
 -- text, and their numbers.

@@ -11,7 +11,7 @@ ghost use Rattle.base.specs.Kit.{_≡_, take};
 ghost use Rattle.scan.specs.Machine.{step};
 ghost use Rattle.walk.specs.Walk.{numberOf};
 ghost use Rattle.sheet.specs.Sheet.{firstLine, pairLine, lastLine, refused};
-ghost use Rattle.listed.specs.Lines.{lineOf, noLine, begun, opened, stepLine, nextLine};
+ghost use Rattle.listed.specs.CodeLines.{lineOf, noLine, begun, opened, stepLine, nextLine};
 
 // The longest line of a sheet: a key of 256 bytes in hex, a space, twenty digits and a newline.
 pub const LINE: usize = 534;

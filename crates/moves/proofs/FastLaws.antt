@@ -9,7 +9,7 @@ use Rattle.search.specs.Traversal.{leafThere}
 use Rattle.search.specs.Helper.{slotIn}
 use Rattle.search.proofs.TraversalLaws.{not-second}
 use Rattle.moves.specs.Moves.{Taken, onward, isStorable, keyPlace, keyBuf, handOut, emitKey, takeKey, takeSlot, unlessDup, findSlot, findNext}
-use Rattle.moves.specs.FastPath.{fastSlot, nextKey}
+use Rattle.moves.specs.CodeFastPath.{fastSlot, nextKey}
 
 -- THE SLOT THAT IS FAST: its position is in use, its ikey is not below the cursor's, and its key is live and can be stored.
 pub record Fast (image : List ℕ) (leaf : ℕ) (p : Position) (k : CursorPlace) (s : Slot) : Type 0 where

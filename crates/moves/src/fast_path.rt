@@ -11,7 +11,7 @@ use node::permuter::Slot;
 ghost use Rattle.base.specs.Kit.{_≡_, true, _≤_, length};
 ghost use Rattle.node.specs.Layout.{InLeaf, InSlot};
 ghost use Rattle.moves.specs.Moves.{isStorable, keyBuf};
-ghost use Rattle.moves.specs.FastPath.{fastSlot, nextKey};
+ghost use Rattle.moves.specs.CodeFastPath.{fastSlot, nextKey};
 
 // The slot whose key is next, or that it takes more than this to tell.
 pub enum FastSlot {

@@ -1,10 +1,10 @@
 -- What is left in lent output: the check's counts and the tally's count, once they are put there; and what `pb_step` leaves, from the step
--- of the record. Assumes nothing.
+-- of the record.
 use Rattle.base.specs.Kit.{_≡_, refl, sym, _∙_, List, [], _∷_, ℕ, arith, eqb, length, eqb-true, eq-eqb, ne-eqb}
 use Rattle.base.specs.Pick.{pick}
 use Rattle.base.proofs.Choice.{by-test}
 use Rattle.record_step.specs.Step.{stepNumber, left, stepOut, StepMade}
-use Rattle.survey.specs.Tally.{countOf}
+use Rattle.survey.specs.Tally.{tallyCount}
 use Rattle.punchbronze.specs.Types.{Checked, Tallied}
 use Rattle.punchbronze.specs.Interface.{countNumbers, countsAfter, saidNumbers, outAfter, StepLeft, countAfter}
 
@@ -18,7 +18,7 @@ pub counts-put : (c : Checked) (s old after : List ℕ) → s ≡ countNumbers c
 unfolding countsAfter countNumbers
 counts-put c s old after e h = put-due 3 _ s old after e refl h
 
-pub count-put : (t : Tallied) (s old after : List ℕ) → s ≡ countOf t ∷ [] → after ≡ pick (eqb (length old) (length s)) s old
+pub count-put : (t : Tallied) (s old after : List ℕ) → s ≡ tallyCount t ∷ [] → after ≡ pick (eqb (length old) (length s)) s old
     → after ≡ countAfter t old
 unfolding countAfter
 count-put t s old after e h = put-due 1 _ s old after e refl h

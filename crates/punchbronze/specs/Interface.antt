@@ -4,15 +4,15 @@
 use Rattle.base.specs.Kit.{Bool, List, [], _∷_, _≡_, ℕ, eqb, length}
 use Rattle.base.specs.Pick.{pick}
 use Rattle.punchbronze.specs.Types.{Checked, Placed, Tallied}
-use Rattle.verify.specs.Check.{countsOf}
-use Rattle.survey.specs.Tally.{countOf}
+use Rattle.verify.specs.Check.{checkCounts}
+use Rattle.survey.specs.Tally.{tallyCount}
 use Rattle.walk_record.specs.Record.{numbersOf, sized}
 use Rattle.walk.specs.Walk.{answerNumbers}
 use Rattle.record_step.specs.Step.{stepOf, stepNumber, stepNumbers, stepBuf}
 
 -- THE CHECK. Its three numbers: leaves, value slots, sub-layers.
 unfoldable pub countNumbers : Checked → List ℕ
-countNumbers c = countsOf c .leaves ∷ countsOf c .«value_slots» ∷ countsOf c .«sub_layers» ∷ []
+countNumbers c = checkCounts c .leaves ∷ checkCounts c .«value_slots» ∷ checkCounts c .«sub_layers» ∷ []
 
 unfoldable pub countsAfter : Checked → List ℕ → List ℕ
 countsAfter c counts = pick (eqb (length counts) 3) (countNumbers c) counts
@@ -57,4 +57,4 @@ pub record StepLeft (numbers buf bound image out : List ℕ) (r : ℕ) (numbers�
 
 -- A TALLY. Its count.
 unfoldable pub countAfter : Tallied → List ℕ → List ℕ
-countAfter t out = pick (eqb (length out) 1) (countOf t ∷ []) out
+countAfter t out = pick (eqb (length out) 1) (tallyCount t ∷ []) out

@@ -1,4 +1,4 @@
 -- The definition files of this crate.
 pub mod Types
 pub mod Step
-pub mod InPlace
+pub mod CodeInPlace

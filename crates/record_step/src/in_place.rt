@@ -5,7 +5,7 @@ use walk_record::layout;
 use walk_record::record;
 ghost use Rattle.base.specs.Kit.{_≡_, _≤_, length, getD};
 ghost use Rattle.walk_record.specs.Record.{numbersIn, positionAt};
-ghost use Rattle.record_step.specs.InPlace.{numbersOk, placeOf, keyNumbers};
+ghost use Rattle.record_step.specs.CodeInPlace.{numbersOk, placeOf, keyNumbers};
 
 // Whether a record's numbers are in range, over an image of n bytes (01's 21).
 pub fn is_numbers_ok(numbers: &[u64], n: usize) -> bool

@@ -17,12 +17,12 @@ use walk_record::layout;
 use walk_record::record;
 ghost use Rattle.base.specs.Kit.{_≡_, true, length, getD};
 ghost use Rattle.search.specs.Traversal.{leafThere};
-ghost use Rattle.moves.specs.FastPath.{fastSlot};
+ghost use Rattle.moves.specs.CodeFastPath.{fastSlot};
 ghost use Rattle.record_step.specs.Types.{At, FindNext};
 ghost use Rattle.walk.specs.Walk.{walkOk};
 ghost use Rattle.scan.specs.Machine.{step};
 ghost use Rattle.walk_record.specs.Record.{leafAt, positionAt, stateAt, isRecord};
-ghost use Rattle.record_step.specs.InPlace.{numbersOk, placeOf};
+ghost use Rattle.record_step.specs.CodeInPlace.{numbersOk, placeOf};
 ghost use Rattle.record_step.specs.Step.{StepMade};
 
 // A step of a walk. `tested` tells that its first move has tested its leaf's version.

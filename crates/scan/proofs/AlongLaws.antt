@@ -5,11 +5,11 @@ use Rattle.scan.specs.Types.{Slot, CursorPlace, ScanCtx, At, Out, NextKe
 use Rattle.cursor.specs.CursorKey.{withIkey, withLength}
 use Rattle.search.specs.Traversal.{leafThere}
 use Rattle.moves.specs.Moves.{onward, keyPlace, keyBuf, InRange}
-use Rattle.moves.specs.FastPath.{fastSlot, nextKey}
+use Rattle.moves.specs.CodeFastPath.{fastSlot, nextKey}
 use Rattle.moves.proofs.StoredKey.{key-fits, key-buf-length}
 use Rattle.moves.proofs.FastLaws.{Fast, fast-facts, next-place}
 use Rattle.scan.specs.Machine.{Scan}
-use Rattle.scan.specs.Loop.{counted, afterBy, runBy, AfterKey, ahead, alongWith, AlongFrom}
+use Rattle.scan.specs.CodeLoop.{counted, afterBy, runBy, AfterKey, ahead, alongWith, AlongFrom}
 use Rattle.scan.proofs.RunLaws.{turn}
 use Rattle.scan.proofs.FastMove.{leaf-gone, moves-out, moves-past}
 

@@ -4,10 +4,10 @@ use Rattle.base.specs.Pick.{pick}
 use Rattle.scan.specs.Types.{Slot, CursorPlace, ScanCtx, ScanState, Emit, Exhausted, OutcomeFault as Fault, At, NextKey, Out, NextKeyPast as Past, LayerContext}
 use Rattle.search.specs.Traversal.{leafThere}
 use Rattle.moves.specs.Moves.{kept, faulted, onward, keyBuf, findNext, passIn}
-use Rattle.moves.specs.FastPath.{fastSlot, nextKey}
+use Rattle.moves.specs.CodeFastPath.{fastSlot, nextKey}
 use Rattle.moves.proofs.FastLaws.{passOf, fast-next}
 use Rattle.scan.specs.Machine.{Scan, isUp, pushing, movedBy, move}
-use Rattle.scan.specs.Loop.{AfterKey}
+use Rattle.scan.specs.CodeLoop.{AfterKey}
 use Rattle.scan.proofs.MoveLaws.{pass-is}
 
 module _ (image : List ℕ) (kind : ℕ) (bound buf : List ℕ) (stack : List LayerContext) (c : ScanCtx) (a : AfterKey c) where

@@ -9,7 +9,7 @@ use Rattle.scan.specs.Types.{ScanState, ScanStateStart as Start, ScanSta
 use Rattle.moves.proofs.Laws.{Between, Before, After, not-up, popped-in-range, entered-in-range, pass-in-range, buffer-in-range}
 use Rattle.walk.specs.Walk.{walkOk}
 use Rattle.scan.specs.Machine.{Scan, isUp, pushing, movedBy, entered, stacked, popped, unstacked, move, scanState, scanOf}
-use Rattle.scan.specs.Loop.{counted, Run, afterBy, runBy, allBy, advanceBy, advancedOf, isNext, isAlong, AfterKey, isSlow, leftAnswer, AlongFrom}
+use Rattle.scan.specs.CodeLoop.{counted, Run, afterBy, runBy, allBy, advanceBy, advancedOf, isNext, isAlong, AfterKey, isSlow, leftAnswer, AlongFrom}
 use Rattle.walk.specs.declared.scan_state.WalkState.the-variants as walk
 use Rattle.walk.proofs.NumberLaws.{walk-fits}
 use Rattle.scan.proofs.BeginLaws.{starts-between}

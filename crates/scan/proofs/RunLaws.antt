@@ -5,7 +5,7 @@ use Rattle.base.proofs.Count.{left-more}
 use Rattle.scan.specs.Types.{Outcome, Continue, Push, Emit, Exhausted, OutcomeFault as Fault, Walk}
 use Rattle.walk.specs.Walk.{walkOk}
 use Rattle.scan.specs.Machine.{Scan, move, after, run, isEnded, finished, advance}
-use Rattle.scan.specs.Loop.{counted, afterBy, runBy, allBy, advanceBy, keysAhead, keysLeft}
+use Rattle.scan.specs.CodeLoop.{counted, afterBy, runBy, allBy, advanceBy, keysAhead, keysLeft}
 
 module _ (image : List ℕ) (kind : ℕ) (bound : List ℕ) where
   abbrev ToKey : ℕ → Type 0

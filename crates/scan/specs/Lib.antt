@@ -1,3 +1,3 @@
 pub mod Types
 pub mod Machine
-pub mod Loop
+pub mod CodeLoop

@@ -15,7 +15,7 @@ ghost use Rattle.base.specs.Kit.{_≡_, true, length};
 ghost use Rattle.scan.specs.Types.{WalkStateFindNext as FindNext};
 ghost use Rattle.walk.specs.Walk.{walkOk};
 ghost use Rattle.scan.specs.Machine.{advance, step};
-ghost use Rattle.scan.specs.Loop.{keysLeft};
+ghost use Rattle.scan.specs.CodeLoop.{keysLeft};
 
 // A step of a walk that has handed out a key. Most take the next slot's key, by the fast path; the loop makes every other, and its first
 // move does not test the leaf's version again.

@@ -3,12 +3,12 @@ use Rattle.base.specs.Kit.{_≡_, refl, ap, sym, _∙_, List, not, ℕ, _<_, eq
 use Rattle.layering.specs.Sieve.{rowOf}
 use Rattle.base.specs.Pick.{pick}
 use Rattle.base.proofs.Choice.{pick-ind}
-use Rattle.verify.specs.Check.{numberOf, check}
+use Rattle.verify.specs.Check.{checkNumber, check}
 use Rattle.verify.proofs.Theorem.{declined-number}
 use Rattle.verify.specs.declared.Checked.{Checked}
 use Rattle.verify.specs.declared.Checked.the-variants as checked
 use Rattle.walk.specs.Placing.{placeFault, place}
-use Rattle.scan.specs.Loop.{keysLeft}
+use Rattle.scan.specs.CodeLoop.{keysLeft}
 use Rattle.cursor.specs.declared.range_bound.StartMode.the-variants.{Above}
 use Rattle.walk.specs.declared.scan_state.Placed.{Placed}
 use Rattle.survey.specs.declared.Tallied.the-variants.{Counted, Declined}
@@ -27,14 +27,14 @@ module _ (image : List ℕ) (cursor : List ℕ) (kind : ℕ) (bound : List ℕ) 
   module _ (r : Checked) (e : r ≡ check image) where
     -- the check declines
     pub check-declines : (n : ℕ) → r ≡ checked.Declined n → Declined n ≡ tally image cursor kind bound
-    unfolding tally numberOf pick
+    unfolding tally checkNumber pick
     check-declines n f = rw (← e, f, ne-eqb n 0 (declined-number image n (sym e ∙ f)))
 
     module _ (l v s : ℕ) (f : r ≡ checked.Accepted l v s) (p : Placed) (g : p ≡ place image Above cursor kind bound) where
       -- the placing's number decides
       by-number : tally image cursor kind bound
           ≡ pick (not (eqb (p .code) 0)) (Declined (p .code)) (Counted (length (rowOf image Above cursor kind bound)))
-      unfolding tally numberOf pick
+      unfolding tally checkNumber pick
       by-number = rw (← e, f, ← code-is, ← g)
 
       -- it declines
@@ -45,9 +45,9 @@ module _ (image : List ℕ) (cursor : List ℕ) (kind : ℕ) (bound : List ℕ) 
       -- the walk is counted
       pub counts : ((i : ℕ) → getD image i 0 < 256) → ((i : ℕ) → getD cursor i 0 < 256) → p .code ≡ 0
           → (n : ℕ) → n ≡ keysLeft (p .walk) image → Counted n ≡ tally image cursor kind bound
-      unfolding numberOf pick
+      unfolding checkNumber pick
       counts b bc z n h =
           let w : keysLeft (p .walk) image ≡ length (rowOf image Above cursor kind bound) =
           rw g
-          (row-counted image b (ap numberOf (sym e ∙ f)) Above cursor bc kind bound (ap (λ (q : Placed). q .code) (sym g) ∙ z)) in
+          (row-counted image b (ap checkNumber (sym e ∙ f)) Above cursor bc kind bound (ap (λ (q : Placed). q .code) (sym g) ∙ z)) in
           rw (by-number, eq-eqb (p .code) 0 z, h, w)

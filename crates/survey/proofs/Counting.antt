@@ -3,15 +3,15 @@
 -- (demands/proofs/Tally.antt), and an accepted image has more bytes than that.
 use Rattle.base.specs.Kit.{_≡_, List, ℕ, _<_, length, getD}
 use Rattle.layering.specs.Sieve.{rowOf}
-use Rattle.verify.specs.Check.{numberOf, check}
+use Rattle.verify.specs.Check.{checkNumber, check}
 use Rattle.verify.proofs.Theorem.{accepted-obeys}
 use Rattle.walk.specs.Placing.{place}
-use Rattle.scan.specs.Loop.{keysLeft}
+use Rattle.scan.specs.CodeLoop.{keysLeft}
 use Rattle.cursor.specs.declared.range_bound.StartMode.{StartMode}
 use Rattle.demands.proofs.Whole.{taken, fresh-keys}
 
 -- THE COUNT
-pub row-counted : (image : List ℕ) → ((i : ℕ) → getD image i 0 < 256) → numberOf (check image) ≡ 0
+pub row-counted : (image : List ℕ) → ((i : ℕ) → getD image i 0 < 256) → checkNumber (check image) ≡ 0
     → (mode : StartMode) (cursor : List ℕ) → ((i : ℕ) → getD cursor i 0 < 256) → (kind : ℕ) (bound : List ℕ)
     → place image mode cursor kind bound .code ≡ 0
     → keysLeft (place image mode cursor kind bound .walk) image ≡ length (rowOf image mode cursor kind bound)

@@ -8,7 +8,7 @@ use Rattle.node.specs.Layout.{versionAt, permutationAt, nextAt, nkeysAt}
 use Rattle.node.proofs.PermuterLaws.{size-fits}
 use Rattle.verify.specs.Types.{Suffix, Progress, RecordCheck, Leaf, Internode, RecordCheckFault as Fault, SlotCheck, Layer, Passed, SlotCheckFault as SlotFault}
 use Rattle.verify.specs.Check.{stop, andThen, each, demand, passLeaf, passInternode, enterLayer, leaveLayer, separatorsFrom, slotC, nodeC}
-use Rattle.verify.specs.Cases.{afterRecord, afterSlot, subC, leafCheck, internodeCheck, recordCheck, LeafTold, suffixCheck, kindCheck, slotCheck, recordEnd, leafEnd, layerEnd, Bounded, Sized}
+use Rattle.verify.specs.CodeCases.{afterRecord, afterSlot, subC, leafCheck, internodeCheck, recordCheck, LeafTold, suffixCheck, kindCheck, slotCheck, recordEnd, leafEnd, layerEnd, Bounded, Sized}
 use Rattle.verify.proofs.Going.{says-leb, says-eqb, says-and, says-self}
 use Rattle.verify.proofs.Fields.{layer-kind}
 use Rattle.verify.proofs.Records.{says-reachable}

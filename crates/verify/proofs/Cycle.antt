@@ -10,7 +10,7 @@ use Rattle.node.proofs.HeadingLaws.{length-fits}
 use Rattle.node.proofs.PermuterLaws.{size-fits}
 use Rattle.verify.specs.Types.{Checked, Declined, Progress, RecordCheck, Leaf, Internode, RecordCheckFault as Fault, SlotCheck, Layer, Passed, SlotCheckFault as SlotFault}
 use Rattle.verify.specs.Check.{stop, andThen, each, enterLayer, leaveLayer, lowEnd, highEnd, slotC, nodeC, finish, begin, check}
-use Rattle.verify.specs.Cases.{afterRecord, afterSlot, subC, recordCheck, LeafTold, slotCheck, recordEnd, leafEnd, layerEnd, Opened, Bounded, Sized}
+use Rattle.verify.specs.CodeCases.{afterRecord, afterSlot, subC, recordCheck, LeafTold, slotCheck, recordEnd, leafEnd, layerEnd, Opened, Bounded, Sized}
 use Rattle.verify.proofs.Records.{Separators, says-separators}
 use Rattle.verify.proofs.Steps.{childC, then-stop, node-is, slot-is, layer-is, sub-is}
 use Rattle.verify.proofs.Bounds.{InternodeTold, RecordTold, record-told, Kept, weaker, demand-kept, then-kept, each-adds, SlotTold, slot-told, slot-adds, node-adds, sub-adds}

@@ -6,7 +6,7 @@ use Rattle.node.specs.Version.{atRest}
 use Rattle.node.specs.Layout.{versionAt, permutationAt, nkeysAt, separatorAt}
 use Rattle.verify.specs.Types.{Progress, RecordCheck, Leaf, Internode, RecordCheckFault as Fault, Slot}
 use Rattle.verify.specs.Check.{reachable, expected, permutes, separatorsFrom, lowEnd, highEnd, freshFrom, permutesFrom}
-use Rattle.verify.specs.Cases.{leafCheck, internodeCheck}
+use Rattle.verify.specs.CodeCases.{leafCheck, internodeCheck}
 use Rattle.base.proofs.Choice.{found-so}
 use Rattle.verify.proofs.Going.{says-leb, says-as, same-test}
 use Rattle.verify.proofs.Records.{says-reachable}

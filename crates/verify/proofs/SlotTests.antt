@@ -8,7 +8,7 @@ use Rattle.verify.specs.Types.{Slot, Suffix, Progress, SlotCheck, Passed
 use Rattle.layering.specs.Tree.{fieldsAt}
 use Rattle.layering.specs.Accepted.{IsPermutation}
 use Rattle.verify.specs.Check.{passSuffix, before, inOrder, listed, fits, inRange}
-use Rattle.verify.specs.Cases.{keyed, suffixCheck, kindCheck, slotCheck, Opened}
+use Rattle.verify.specs.CodeCases.{keyed, suffixCheck, kindCheck, slotCheck, Opened}
 use Rattle.verify.proofs.Going.{says-leb, says-ltb, says-eqb, says-as, same-test}
 use Rattle.verify.proofs.Records.{says-permutes}
 

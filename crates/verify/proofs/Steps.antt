@@ -9,7 +9,7 @@ use Rattle.node.specs.Layout.{permutationAt, nkeysAt, childAt}
 use Rattle.layering.specs.Tree.{fieldsAt}
 use Rattle.layering.specs.Accepted.{room}
 use Rattle.verify.specs.Check.{stop, andThen, each, demand, passSuffix, passInternode, listed, fits, inRange, suffixC, layerSlotC, slotC, leafC, lowEnd, highEnd, internodeC, recordC, nodeC, layerWith, layerC}
-use Rattle.verify.specs.Cases.{afterRecord, afterSlot, subC, leafCheck, internodeCheck, recordCheck, suffixCheck, kindCheck, slotCheck, recordEnd, leafEnd, layerEnd}
+use Rattle.verify.specs.CodeCases.{afterRecord, afterSlot, subC, leafCheck, internodeCheck, recordCheck, suffixCheck, kindCheck, slotCheck, recordEnd, leafEnd, layerEnd}
 use Rattle.verify.specs.Types.{Progress, RecordCheck, SlotCheck}
 
 -- LOOPS. What is left from i on comes to w, as the whole does.

@@ -8,7 +8,7 @@ use Rattle.node.specs.Heading.{lengthOk, headingFault}
 use Rattle.layering.specs.Tree.{treeOf}
 use Rattle.layering.specs.Accepted.{endN, firstN, LinkedN, Obeys}
 use Rattle.verify.specs.Types.{Counts, Checked, Accepted, Declined, Progress}
-use Rattle.verify.specs.Check.{numberOf, countsOf, accepted, layerC, begin, finish, check}
+use Rattle.verify.specs.Check.{checkNumber, checkCounts, accepted, layerC, begin, finish, check}
 use Rattle.verify.specs.Acceptance.{treeCounts}
 use Rattle.verify.proofs.Going.{Says, says-leb, says-eqb, says-and, Runs}
 use Rattle.verify.proofs.Places.{lastN, linked-lastN}
@@ -48,8 +48,8 @@ says-headed image =
 
 -- an acceptance fixes its numbers
 same-numbers : (d c : Counts) → accepted d ≡ accepted c → c ≡ d
-unfolding accepted countsOf
-same-numbers d c h = sym (ap countsOf h)
+unfolding accepted checkCounts
+same-numbers d c h = sym (ap checkCounts h)
 
 -- a test of the answer, and all of them at the end
 accepts : (t : Bool) (n : ℕ) (x : Checked) (c : Counts) → pick (not t) (Declined n) x ≡ accepted c → (t ≡ true) × (x ≡ accepted c)
@@ -110,38 +110,38 @@ module _ (image : List ℕ) where
       ∙ ap accepted c)
 
   -- no image is declined with 0
-  is-accepted : numberOf (check image) ≡ 0 → check image ≡ accepted (countsOf (check image))
-  unfolding check finish whole numberOf countsOf accepted
+  is-accepted : checkNumber (check image) ≡ 0 → check image ≡ accepted (checkCounts (check image))
+  unfolding check finish whole checkNumber checkCounts accepted
   is-accepted =
-      let P : Checked → Type 0 = λ r. numberOf r ≡ 0 → r ≡ accepted (countsOf r) in
+      let P : Checked → Type 0 = λ r. checkNumber r ≡ 0 → r ≡ accepted (checkCounts r) in
       let no-zero : (n : ℕ) → (n ≡ 0 → ⊥) → P (Declined n) = λ n h e. absurd (h e) in
       pick-ind P (not (eqb (headingFault image) 0)) (λ t. no-zero _ (eqb-false _ 0 (not-true _ t)))
       (λ _. pick-ind P (not (eqb (whole .fault) 0)) (λ t. no-zero _ (eqb-false _ 0 (not-true _ t)))
       (λ _. pick-ind P (not (eqb (whole .place + 32) (length image))) (λ _. no-zero 3 (λ e. omega arith))
       (λ _. pick-ind P (not (eqb (keyCount image) (whole .counts .«value_slots»))) (λ _. no-zero 10 (λ e. omega arith)) (λ _ e. refl))))
 
-  pub accepted-obeys : numberOf (check image) ≡ 0 → Obeys image × (countsOf (check image) ≡ treeCounts (treeOf image))
+  pub accepted-obeys : checkNumber (check image) ≡ 0 → Obeys image × (checkCounts (check image) ≡ treeCounts (treeOf image))
   accepted-obeys e = accepts-tree _ (is-accepted e)
 
-  pub obeys-accepted : Obeys image → (numberOf (check image) ≡ 0) × (countsOf (check image) ≡ treeCounts (treeOf image))
-  unfolding numberOf countsOf accepted
-  obeys-accepted o = (ap numberOf (tree-accepted o), ap countsOf (tree-accepted o))
+  pub obeys-accepted : Obeys image → (checkNumber (check image) ≡ 0) × (checkCounts (check image) ≡ treeCounts (treeOf image))
+  unfolding checkNumber checkCounts accepted
+  obeys-accepted o = (ap checkNumber (tree-accepted o), ap checkCounts (tree-accepted o))
 
   -- what `check_image` answers where it declines is no 0
   pub declined-number : (n : ℕ) → check image ≡ Declined n → n ≡ 0 → ⊥
-  unfolding numberOf accepted
-  declined-number n e z = let a = is-accepted (ap numberOf e ∙ z) in let y : _≡_ {A = ℕ} 0 1 = cc in omega arith
+  unfolding checkNumber accepted
+  declined-number n e z = let a = is-accepted (ap checkNumber e ∙ z) in let y : _≡_ {A = ℕ} 0 1 = cc in omega arith
 
 -- "A declined call returns its number, zero elsewhere": of any answer.
-pub declined-zero : (r : Checked) → (numberOf r ≡ 0 → ⊥) → countsOf r ≡ record { leaves = 0; «value_slots» = 0; «sub_layers» = 0 }
-unfolding numberOf countsOf
+pub declined-zero : (r : Checked) → (checkNumber r ≡ 0 → ⊥) → checkCounts r ≡ record { leaves = 0; «value_slots» = 0; «sub_layers» = 0 }
+unfolding checkNumber checkCounts
 declined-zero (Accepted leaves values layers) h = absurd (h refl)
 declined-zero (Declined n) h = refl
 
 -- THE FUNCTION. `check_image` (src/lib.rt) returns r with r ≡ check image, by its contract. So its number is 0 exactly where the image
 -- obeys the rules, and then its three numbers are the tree's; else they are zero.
 pub check-image-accepts : (image : List ℕ) (r : Checked) → r ≡ check image
-    → (numberOf r ≡ 0 → Obeys image × (countsOf r ≡ treeCounts (treeOf image)))
-    × (Obeys image → (numberOf r ≡ 0) × (countsOf r ≡ treeCounts (treeOf image)))
-    × ((numberOf r ≡ 0 → ⊥) → countsOf r ≡ record { leaves = 0; «value_slots» = 0; «sub_layers» = 0 })
+    → (checkNumber r ≡ 0 → Obeys image × (checkCounts r ≡ treeCounts (treeOf image)))
+    × (Obeys image → (checkNumber r ≡ 0) × (checkCounts r ≡ treeCounts (treeOf image)))
+    × ((checkNumber r ≡ 0 → ⊥) → checkCounts r ≡ record { leaves = 0; «value_slots» = 0; «sub_layers» = 0 })
 check-image-accepts image r e = rw e (accepted-obeys image, obeys-accepted image, declined-zero (check image))

@@ -12,13 +12,13 @@ use Rattle.verify.specs.Types.{Counts, Checked, Accepted, Declined, Prog
 
 -- 01's number of an answer, 0 for acceptance, and its values: "Acceptance gives the numbers of leaves, value slots and
 -- sub-layers"; "A declined call returns its number, zero elsewhere".
-unfoldable pub numberOf : Checked → ℕ
-numberOf (Accepted leaves values layers) = 0
-numberOf (Declined n) = n
+unfoldable pub checkNumber : Checked → ℕ
+checkNumber (Accepted leaves values layers) = 0
+checkNumber (Declined n) = n
 
-unfoldable pub countsOf : Checked → Counts
-countsOf (Accepted leaves values layers) = record { leaves = leaves; «value_slots» = values; «sub_layers» = layers }
-countsOf (Declined n) = record { leaves = 0; «value_slots» = 0; «sub_layers» = 0 }
+unfoldable pub checkCounts : Checked → Counts
+checkCounts (Accepted leaves values layers) = record { leaves = leaves; «value_slots» = values; «sub_layers» = layers }
+checkCounts (Declined n) = record { leaves = 0; «value_slots» = 0; «sub_layers» = 0 }
 
 unfoldable pub accepted : Counts → Checked
 accepted c = Accepted (c .leaves) (c .«value_slots») (c .«sub_layers»)

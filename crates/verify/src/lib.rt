@@ -16,7 +16,7 @@ ghost use Rattle.base.specs.Kit.{_≡_, _+_, _*_, _-_, _≤_};
 ghost use Rattle.node.specs.Layout.{permutationAt};
 ghost use Rattle.node.specs.Permuter.{sizeOf};
 ghost use Rattle.verify.specs.Check.{each, slotC, nodeC, check};
-ghost use Rattle.verify.specs.Cases.{subC, LeafTold, Bounded, Sized};
+ghost use Rattle.verify.specs.CodeCases.{subC, LeafTold, Bounded, Sized};
 
 // The three numbers of an accepted image.
 pub struct Counts {

@@ -7,7 +7,7 @@ use node::trailer;
 ghost use Rattle.base.specs.Kit.{_≡_, false, _+_, _≤_, length};
 ghost use Rattle.node.specs.Layout.{InLeaf};
 ghost use Rattle.verify.specs.Check.{stop, andThen, passSuffix, enterLayer, leaveLayer, finish, begin};
-ghost use Rattle.verify.specs.Cases.{recordEnd, leafEnd, layerEnd, Bounded};
+ghost use Rattle.verify.specs.CodeCases.{recordEnd, leafEnd, layerEnd, Bounded};
 
 // Nothing is counted, and no leaf was met.
 fn uncounted(fault: u8, place: usize) -> Progress

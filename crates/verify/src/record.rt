@@ -9,7 +9,7 @@ use node::permuter::Position;
 ghost use Rattle.base.specs.Kit.{_≡_, _+_, _≤_, _<_};
 ghost use Rattle.node.specs.Layout.{InInternode, versionAt, nkeysAt, separatorAt};
 ghost use Rattle.verify.specs.Check.{reachable, expected, permutes, separatorsFrom, lowEnd, highEnd};
-ghost use Rattle.verify.specs.Cases.{leafCheck, internodeCheck, recordCheck, Sized};
+ghost use Rattle.verify.specs.CodeCases.{leafCheck, internodeCheck, recordCheck, Sized};
 
 // Number 3, for a record of `size` bytes.
 fn is_reachable(image: &[u8], size: usize, at: u64, p: Progress) -> bool

@@ -11,7 +11,7 @@ ghost use Rattle.base.specs.Kit.{_≡_, _&&_, _+_, _-_, _%_, _^_, _≤_, _<_, e
 ghost use Rattle.node.specs.Permuter.{slotAt};
 ghost use Rattle.node.specs.Layout.{InSlot, ikeyAt, keylenxAt, suffixAt};
 ghost use Rattle.verify.specs.Check.{listed, fits, before, inOrder, inRange};
-ghost use Rattle.verify.specs.Cases.{keyed, suffixCheck, kindCheck, slotCheck, Opened, Bounded};
+ghost use Rattle.verify.specs.CodeCases.{keyed, suffixCheck, kindCheck, slotCheck, Opened, Bounded};
 
 // An ikey is zero behind its first n bytes.
 fn is_filled(ikey: u64, n: u64) -> bool

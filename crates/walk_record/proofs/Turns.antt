@@ -3,7 +3,7 @@ use Rattle.base.specs.Kit.{_≡_, refl, List, ℕ, zero, suc, _+_, _*_, _-_, _<
 use Rattle.base.proofs.Count.{left-more}
 use Rattle.walk_record.specs.Types.{LayerContext, Walk}
 use Rattle.walk_record.specs.Record.{stackAt, entryAt, entries, stackNumbers, numbersOf}
-use Rattle.walk_record.specs.Laid.{headOf}
+use Rattle.walk_record.specs.CodeLaid.{headOf}
 
 -- the entry of a stack that is empty
 abbrev pub blank : LayerContext

@@ -9,7 +9,7 @@ use walk::scan_state::Walk;
 use walk::scan_state::WalkState;
 ghost use Rattle.base.specs.Kit.{_≡_, _≤_, length, getD};
 ghost use Rattle.walk_record.specs.Record.{kindAt, numbersIn, modeNumber, modeOf, stateNumber, stateOf, numbersOf, entries, readWalk, sized, isRecord};
-ghost use Rattle.walk_record.specs.Laid.{headOf, readCursor, readBound};
+ghost use Rattle.walk_record.specs.CodeLaid.{headOf, readCursor, readBound};
 
 // Whether the three lengths are a record's.
 pub fn is_sized(numbers: usize, buf: usize, bound: usize) -> bool

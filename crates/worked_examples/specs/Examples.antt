@@ -2,7 +2,7 @@
 use Rattle.base.specs.Kit.{List, [], _∷_, _++_, Option, none, some, ℕ, zero, suc, _+_, eqb, length, take, replicate}
 use Rattle.base.specs.Pick.{pick}
 use Rattle.layering.specs.Keys.{Pair}
-use Rattle.verify.specs.Check.{check, numberOf as checkNumber, countsOf}
+use Rattle.verify.specs.Check.{check, checkNumber, checkCounts}
 use Rattle.verify.specs.declared.Checked.{Checked}
 use Rattle.walk.specs.Walk.{numberOf, keysOf, lenOf, valueOf}
 use Rattle.walk.specs.Placing.{place}
@@ -57,7 +57,7 @@ hand (suc n) image w =
 
 -- The check's answer as four numbers.
 unfoldable pub checkNumbers : Checked → List ℕ
-checkNumbers r = checkNumber r ∷ countsOf r .leaves ∷ countsOf r .«value_slots» ∷ countsOf r .«sub_layers» ∷ []
+checkNumbers r = checkNumber r ∷ checkCounts r .leaves ∷ checkCounts r .«value_slots» ∷ checkCounts r .«sub_layers» ∷ []
 
 -- 01 gives the moves of some examples only.
 unfoldable pub asked : Option ℕ → ℕ → Option ℕ

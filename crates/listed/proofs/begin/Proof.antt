@@ -1,6 +1,6 @@
--- `listed::begin` meets its contract: the walk is the placing's. Assumes nothing.
+-- `listed::begin` meets its contract: the walk is the placing's.
 use Rattle.base.specs.Kit.{needs}
-use Rattle.listed.specs.Lines.{begun}
+use Rattle.listed.specs.CodeLines.{begun}
 use Rattle.listed.proofs.begin.Statement.{statement}
 use Rattle.listed.proofs.begin.Tie as tie
 

@@ -1,4 +1,4 @@
--- A buffer with no more bytes than asked for is its own front; any other is cut. Assumes nothing.
+-- A buffer with no more bytes than asked for is its own front; any other is cut.
 use Rattle.base.specs.Kit.{sym, arith, needs, take-all}
 use Rattle.key.specs.Part.{part}
 use Rattle.listed.proofs.front.Statement.{statement}

@@ -1,4 +1,4 @@
--- `listed::next_line` meets its contract, by the listing's stage. Assumes nothing.
+-- `listed::next_line` meets its contract, by the listing's stage.
 use Rattle.base.specs.Kit.{needs}
 use Rattle.base.proofs.Needs.{ten}
 use Rattle.listed.proofs.LineLaws.{next-first, next-refused, next-pairs, next-done}

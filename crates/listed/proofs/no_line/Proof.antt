@@ -1,6 +1,6 @@
--- `listed::no_line` meets its contract. Assumes nothing.
+-- `listed::no_line` meets its contract.
 use Rattle.base.specs.Kit.{refl}
-use Rattle.listed.specs.Lines.{blank, noLine}
+use Rattle.listed.specs.CodeLines.{blank, noLine}
 use Rattle.listed.proofs.no_line.Statement.{statement}
 use Rattle.listed.proofs.no_line.Tie as tie
 

@@ -1,4 +1,4 @@
--- `listed::number_of` meets its contract, by the answer's variant. Assumes nothing.
+-- `listed::number_of` meets its contract, by the answer's variant.
 use Rattle.base.specs.Kit.{sym, ap, needs}
 use Rattle.walk.specs.Walk.{numberOf}
 use Rattle.listed.proofs.number_of.Statement.{statement}

@@ -1,4 +1,4 @@
--- `listed::open` meets its contract: the check first; an image that it accepts has a trailer. Assumes nothing.
+-- `listed::open` meets its contract: the check first; an image that it accepts has a trailer.
 use Rattle.base.specs.Kit.{needs}
 use Rattle.listed.proofs.LineLaws.{opened-accepted, opened-declined, has-trailer}
 use Rattle.listed.proofs.open.Statement.{statement}

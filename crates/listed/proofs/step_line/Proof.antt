@@ -1,4 +1,4 @@
--- `listed::step_line` meets its contract: the step, then its line by the answer. Assumes nothing.
+-- `listed::step_line` meets its contract: the step, then its line by the answer.
 use Rattle.base.specs.Kit.{sym, _∙_, needs}
 use Rattle.base.proofs.Needs.{three, ten}
 use Rattle.listed.proofs.LineLaws.{step-declines, step-key, step-none, step-zero}

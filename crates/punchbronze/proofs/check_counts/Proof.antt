@@ -1,16 +1,16 @@
--- `check_counts` meets its contract: each answer has its arm. Assumes nothing.
+-- `check_counts` meets its contract: each answer has its arm.
 use Rattle.base.specs.Kit.{needs}
-use Rattle.verify.specs.Check.{countsOf}
+use Rattle.verify.specs.Check.{checkCounts}
 use Rattle.punchbronze.specs.Interface.{countNumbers}
 use Rattle.punchbronze.proofs.check_counts.Statement.{statement}
 use Rattle.punchbronze.proofs.check_counts.Tie as tie
 
 returns : tie.Need-returns
-unfolding countNumbers countsOf
+unfolding countNumbers checkCounts
 returns c = rw (c .enum-told .given .1)
 
 returns-2 : tie.Need-returns-2
-unfolding countNumbers countsOf
+unfolding countNumbers checkCounts
 returns-2 c = rw (c .before .checked .given .1)
 
 pub check-counts-spec : {M : Type 1} → statement M

@@ -1,4 +1,4 @@
--- `pb_step` meets its contract: the step's number decides whether its answer or zeros are left. Assumes nothing.
+-- `pb_step` meets its contract: the step's number decides whether its answer or zeros are left.
 use Rattle.base.specs.Kit.{needs}
 use Rattle.punchbronze.proofs.Lent.{says, declines}
 use Rattle.punchbronze.proofs.pb_step.Statement.{statement}

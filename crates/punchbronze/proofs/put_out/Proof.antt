@@ -1,4 +1,4 @@
--- `put_out` meets its contract: the two lengths decide. Assumes nothing.
+-- `put_out` meets its contract: the two lengths decide.
 use Rattle.base.specs.Kit.{eq-eqb, ne-eqb, needs}
 use Rattle.base.specs.Pick.{pick}
 use Rattle.punchbronze.proofs.put_out.Statement.{statement}

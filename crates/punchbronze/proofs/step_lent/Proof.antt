@@ -1,4 +1,4 @@
--- `step_lent` meets its contract: the two tests stand in the order of the definition, and then the step is the record's. Assumes nothing.
+-- `step_lent` meets its contract: the two tests stand in the order of the definition, and then the step is the record's.
 use Rattle.base.specs.Kit.{needs}
 use Rattle.base.proofs.Choice.{found-so, found-not}
 use Rattle.record_step.proofs.Steps.{no-room, no-record}

@@ -8,7 +8,7 @@ use Rattle.node.specs.Permuter.{sizeOf}
 use Rattle.node.specs.Layout.{permutationAt, nkeysAt}
 use Rattle.node.proofs.PermuterLaws.{size-fits}
 use Rattle.verify.specs.Check.{each, slotC}
-use Rattle.verify.specs.Cases.{subC, Bounded}
+use Rattle.verify.specs.CodeCases.{subC, Bounded}
 use Rattle.verify.proofs.Steps.{childC, each-none, each-on, each-stop}
 use Rattle.verify.proofs.Bounds.{InternodeTold, weaker}
 use Rattle.verify.proofs.Cycle as cycle

@@ -2,7 +2,7 @@
 use Rattle.base.specs.Kit.{le-ltb, lt-ltb, le-leb, lt-leb, needs}
 use Rattle.base.specs.Pick.{pick}
 use Rattle.base.proofs.Choice.{found-so, found-not}
-use Rattle.moves.specs.FastPath.{fastSlot}
+use Rattle.moves.specs.CodeFastPath.{fastSlot}
 use Rattle.moves.proofs.fast_path.fast_slot.Statement.{statement}
 use Rattle.moves.proofs.fast_path.fast_slot.Tie as tie
 

@@ -2,7 +2,7 @@
 use Rattle.base.specs.Kit.{_+_, _≤_, needs}
 use Rattle.base.specs.Pick.{pick}
 use Rattle.key.specs.Part.{part}
-use Rattle.moves.specs.FastPath.{nextKey}
+use Rattle.moves.specs.CodeFastPath.{nextKey}
 use Rattle.moves.proofs.StoredKey.{key-fits}
 use Rattle.moves.proofs.fast_path.hand_out.Statement.{statement}
 use Rattle.moves.proofs.fast_path.hand_out.Tie as tie

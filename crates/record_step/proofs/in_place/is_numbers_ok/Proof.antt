@@ -5,7 +5,7 @@ use Rattle.base.proofs.Tests.{tests}
 use Rattle.walk.specs.Walk.{walkOk}
 use Rattle.walk.proofs.NumberLaws.{end-past, end-within}
 use Rattle.walk_record.specs.Record.{readWalk}
-use Rattle.record_step.specs.InPlace.{numbersOk}
+use Rattle.record_step.specs.CodeInPlace.{numbersOk}
 use Rattle.record_step.proofs.in_place.is_numbers_ok.Statement.{statement}
 use Rattle.record_step.proofs.in_place.is_numbers_ok.Tie as tie
 

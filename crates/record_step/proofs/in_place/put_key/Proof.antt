@@ -1,6 +1,6 @@
 -- `in_place::put_key` meets its contract: the four stores are the definition's.
 use Rattle.base.specs.Kit.{needs}
-use Rattle.record_step.specs.InPlace.{keyNumbers}
+use Rattle.record_step.specs.CodeInPlace.{keyNumbers}
 use Rattle.record_step.proofs.in_place.put_key.Statement.{statement}
 use Rattle.record_step.proofs.in_place.put_key.Tie as tie
 

@@ -1,7 +1,7 @@
 -- The tests stand in the order of the definition.
 use Rattle.base.specs.Kit.{needs, not-true, not-false}
 use Rattle.base.proofs.Choice.{found-so, found-not}
-use Rattle.scan.specs.Loop.{isAlong}
+use Rattle.scan.specs.CodeLoop.{isAlong}
 use Rattle.scan.proofs.along_leaf.is_along.Statement.{statement}
 use Rattle.scan.proofs.along_leaf.is_along.Tie as tie
 

@@ -1,6 +1,6 @@
 -- The loop, past every key, counts what its moves hand out.
 use Rattle.base.specs.Kit.{ap, false≢true, needs}
-use Rattle.scan.specs.Loop.{advanceBy, keysAhead}
+use Rattle.scan.specs.CodeLoop.{advanceBy, keysAhead}
 use Rattle.scan.specs.Types.{Advanced}
 use Rattle.scan.proofs.forward_ctx.count_ahead.Statement.{statement}
 use Rattle.scan.proofs.forward_ctx.count_ahead.Tie as tie

@@ -4,7 +4,7 @@ use Rattle.base.proofs.Choice.{found-so, found-not}
 use Rattle.scan.specs.Types.{ScanCtx, At}
 use Rattle.search.specs.Traversal.{leafThere}
 use Rattle.moves.specs.Moves.{InRange}
-use Rattle.moves.specs.FastPath.{fastSlot}
+use Rattle.moves.specs.CodeFastPath.{fastSlot}
 use Rattle.moves.proofs.Answers.{there-in}
 use Rattle.moves.proofs.StoredKey.{key-fits}
 use Rattle.moves.proofs.FastLaws.{Fast, fast-facts, next-place}

@@ -3,7 +3,7 @@ use Rattle.base.specs.Kit.{needs}
 use Rattle.base.specs.Pick.{pick}
 use Rattle.base.proofs.Tests.{tests}
 use Rattle.verify.specs.Check.{andThen, demand}
-use Rattle.verify.specs.Cases.{layerEnd}
+use Rattle.verify.specs.CodeCases.{layerEnd}
 use Rattle.verify.proofs.pass.end_layer.Statement.{statement}
 use Rattle.verify.proofs.pass.end_layer.Tie as tie
 

@@ -3,7 +3,7 @@ use Rattle.base.specs.Kit.{needs, arith, eq-eqb}
 use Rattle.base.specs.Pick.{pick}
 use Rattle.base.proofs.Tests.{tests}
 use Rattle.verify.specs.Check.{andThen, demand, passLeaf}
-use Rattle.verify.specs.Cases.{recordEnd, leafEnd}
+use Rattle.verify.specs.CodeCases.{recordEnd, leafEnd}
 use Rattle.verify.proofs.pass.end_leaf.Statement.{statement}
 use Rattle.verify.proofs.pass.end_leaf.Tie as tie
 

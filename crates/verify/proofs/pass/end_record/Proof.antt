@@ -3,7 +3,7 @@ use Rattle.base.specs.Kit.{needs, arith}
 use Rattle.base.specs.Pick.{pick}
 use Rattle.base.proofs.Tests.{tests}
 use Rattle.verify.specs.Check.{andThen, demand}
-use Rattle.verify.specs.Cases.{recordEnd}
+use Rattle.verify.specs.CodeCases.{recordEnd}
 use Rattle.verify.proofs.pass.end_record.Statement.{statement}
 use Rattle.verify.proofs.pass.end_record.Tie as tie
 

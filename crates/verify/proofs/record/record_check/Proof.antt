@@ -2,7 +2,7 @@
 use Rattle.base.specs.Kit.{needs, ap, _∙_, arith}
 use Rattle.base.proofs.Choice.{choices}
 use Rattle.node.specs.Version.{isLeaf}
-use Rattle.verify.specs.Cases.{recordCheck}
+use Rattle.verify.specs.CodeCases.{recordCheck}
 use Rattle.verify.proofs.RecordTests.{before-trailer}
 use Rattle.verify.proofs.record.record_check.Statement.{statement}
 use Rattle.verify.proofs.record.record_check.Tie as tie

@@ -1,7 +1,7 @@
 -- The tests stand in the order of the definition.
 use Rattle.base.specs.Kit.{needs}
 use Rattle.base.proofs.Choice.{by-number}
-use Rattle.verify.specs.Cases.{kindCheck}
+use Rattle.verify.specs.CodeCases.{kindCheck}
 use Rattle.verify.proofs.slot.kind_check.Statement.{statement}
 use Rattle.verify.proofs.slot.kind_check.Tie as tie
 

@@ -2,7 +2,7 @@
 use Rattle.base.specs.Kit.{needs, arith}
 use Rattle.base.specs.Pick.{pick}
 use Rattle.base.proofs.Tests.{tests}
-use Rattle.verify.specs.Cases.{suffixCheck}
+use Rattle.verify.specs.CodeCases.{suffixCheck}
 use Rattle.verify.proofs.SlotTests.{suffix-over, suffix-before}
 use Rattle.verify.proofs.slot.suffix_check.Statement.{statement}
 use Rattle.verify.proofs.slot.suffix_check.Tie as tie

@@ -1,7 +1,7 @@
 -- `record::head_of` meets its contract: the stores into zeroes are the definition written out.
 use Rattle.base.specs.Kit.{needs}
 use Rattle.base.proofs.Needs.{five, ten}
-use Rattle.walk_record.specs.Laid.{headOf}
+use Rattle.walk_record.specs.CodeLaid.{headOf}
 use Rattle.walk_record.proofs.record.head_of.Statement.{statement}
 use Rattle.walk_record.proofs.record.head_of.Tie as tie
 

@@ -1,6 +1,6 @@
 -- `record::read_bound` meets its contract: the definition's fields; a kind that is a byte fits one.
 use Rattle.base.specs.Kit.{needs}
-use Rattle.walk_record.specs.Laid.{readBound}
+use Rattle.walk_record.specs.CodeLaid.{readBound}
 use Rattle.walk_record.proofs.record.read_bound.Statement.{statement}
 use Rattle.walk_record.proofs.record.read_bound.Tie as tie
 

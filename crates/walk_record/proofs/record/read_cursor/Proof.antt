@@ -1,6 +1,6 @@
 -- `record::read_cursor` meets its contract: the definition's fields.
 use Rattle.base.specs.Kit.{needs}
-use Rattle.walk_record.specs.Laid.{readCursor}
+use Rattle.walk_record.specs.CodeLaid.{readCursor}
 use Rattle.walk_record.proofs.record.read_cursor.Statement.{statement}
 use Rattle.walk_record.proofs.record.read_cursor.Tie as tie
 

@@ -2,7 +2,7 @@
 use Rattle.base.specs.Kit.{needs}
 use Rattle.base.proofs.Needs.{nine, three}
 use Rattle.walk_record.specs.Record.{readWalk}
-use Rattle.walk_record.specs.Laid.{readCursor, readBound}
+use Rattle.walk_record.specs.CodeLaid.{readCursor, readBound}
 use Rattle.walk_record.proofs.record.read_walk.Statement.{statement}
 use Rattle.walk_record.proofs.record.read_walk.Tie as tie
 

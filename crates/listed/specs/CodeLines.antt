@@ -3,7 +3,7 @@
 use Rattle.base.specs.Kit.{List, [], ℕ, _+_, _%_, _^_, eqb, replicate}
 use Rattle.base.specs.Pick.{pick}
 use Rattle.node.specs.Layout.{keyCount}
-use Rattle.verify.specs.Check.{numberOf, check}
+use Rattle.verify.specs.Check.{checkNumber, check}
 use Rattle.walk.specs.Placing.{place}
 use Rattle.scan.specs.Machine.{step}
 use Rattle.demands.specs.Demand.{Said, handsOut, none, declines, saidBy}
@@ -33,7 +33,7 @@ begun stage image = record { stage = stage; moves = 0; walk = place image From [
 
 unfoldable pub opened : List ℕ → Listing
 opened image =
-    let n = numberOf (check image) in
+    let n = checkNumber (check image) in
     pick (eqb n 0) (begun (First (keyCount image)) image) (begun (Refused n) image)
 
 -- THE LINE OF A STEP, by what it says: the pair that it hands out; the moves of all steps where there is none; and no line where it is
