@@ -1,0 +1,111 @@
+-- THE THEOREMS, each by its name and its statement, and nothing else: its proof is where its last line names it. `Bytes x` says that x is a
+-- list of bytes, as every lent slice is.
+--
+-- What functions return is fixed by their contracts, which are equations with definitions of the same names: `check_image` (verify/src/lib.rt),
+-- `place` and `place_short` (walk/src/placing.rt), `step` (scan/src/step.rt), `step_lent` (lent/src/lib.rt), `tally` (survey/src/lib.rt),
+-- `open` and `next_line` (listed/src/lib.rt), and the five of punchbronze/src/lib.rt. None of them has a `requires`.
+use Rattle.base.specs.Kit.{_≡_, true, not, map, List, _⊎_, ℕ, _+_, _≤_, _<_, eqb, length, getD}
+use Rattle.base.specs.Pick.{pick}
+use Rattle.cursor.specs.declared.range_bound.StartMode.{StartMode}
+use Rattle.cursor.specs.declared.range_bound.StartMode.the-variants.{Above}
+use Rattle.layering.specs.Tree.{treeOf}
+use Rattle.layering.specs.Keys.{Pair, livePairs}
+use Rattle.layering.specs.Ascending.{All, Ascending}
+use Rattle.layering.specs.Accepted.{Obeys}
+use Rattle.layering.specs.Sieve.{rowOf}
+use Rattle.verify.specs.Check.{checkNumber, checkCounts, check}
+use Rattle.verify.specs.Acceptance.{treeCounts}
+use Rattle.walk.specs.Placing.{placeFault, place}
+use Rattle.walk.specs.declared.scan_state.Walk.{Walk}
+use Rattle.demands.specs.Demand.{Call, Lent, Demand3}
+use Rattle.survey.specs.Tally.{tallyNumber, tallyCount, tally}
+use Rattle.listed.specs.Listed.{AllLines}
+use Rattle.worked_examples.specs.Examples.{machineSays, paperSays, table}
+use Rattle.walk_record.specs.Record.{numbersOf, readWalk, isRecord}
+use Rattle.punchbronze.specs.Interface.{PutPlaced}
+use Rattle.c_demands.specs.CDemand.{CCall, CLent, CDemand3}
+use Rattle.scan.proofs.ByRule01.{ByRule01}
+use Rattle.verify.proofs.Theorem as verify
+use Rattle.layering.proofs.Pairs as layering
+use Rattle.layering.proofs.Asked as asked
+use Rattle.demands.proofs.Demand as demands
+use Rattle.scan.proofs.ByRule01 as scan
+use Rattle.survey.proofs.Theorem as survey
+use Rattle.listed.proofs.Listed as listed
+use Rattle.worked_examples.proofs.Examples as worked
+use Rattle.walk_record.proofs.Inverse as record
+use Rattle.c_demands.proofs.CDemand as c
+
+abbrev Bytes : List ℕ → Type 0
+Bytes x = (i : ℕ) → getD x i 0 < 256
+
+-- THE CHECK accepts exactly the images that obey 01's rules, and its three numbers are then the tree's.
+pub check-accepts : (image : List ℕ) → checkNumber (check image) ≡ 0 → Obeys image × (checkCounts (check image) ≡ treeCounts (treeOf image))
+check-accepts = verify.accepted-obeys
+
+pub check-declines-no-other : (image : List ℕ) → Obeys image → (checkNumber (check image) ≡ 0) × (checkCounts (check image) ≡ treeCounts (treeOf image))
+check-declines-no-other = verify.obeys-accepted
+
+-- Declined, its three numbers are zero.
+pub check-declined : (image : List ℕ) → (checkNumber (check image) ≡ 0 → ⊥)
+    → checkCounts (check image) ≡ record { leaves = 0; «value_slots» = 0; «sub_layers» = 0 }
+check-declined image = verify.declined-zero (check image)
+
+-- THE KEYS of an image that obeys the rules, written down by the paper's layering, ascend strictly in plain byte order, and have at most 256
+-- bytes each.
+pub keys-ascend : (image : List ℕ) → Bytes image → Obeys image → Ascending (livePairs image)
+keys-ascend = layering.pairs-ascend
+
+pub keys-short : (image : List ℕ) → Obeys image → All (λ (x : Pair). length (x .key) ≤ 256) (livePairs image)
+keys-short = layering.pairs-short
+
+-- DEMAND 3: every list of steps of either form, from every placing that is taken over every accepted image.
+pub demand-3 : (image : List ℕ) → Bytes image → checkNumber (check image) ≡ 0 → (mode : StartMode) (cursor : List ℕ) → Bytes cursor
+    → (kind : ℕ) (bound : List ℕ) → place image mode cursor kind bound .code ≡ 0 → (calls : List Call) → Lent image calls
+    → Demand3 image mode cursor kind bound calls
+demand-3 = demands.demand-3
+
+-- The placings that are taken.
+pub is-taken : (image : List ℕ) → checkNumber (check image) ≡ 0 → (mode : StartMode) (cursor : List ℕ) (kind : ℕ) (bound : List ℕ)
+    → length cursor ≤ 256 → kind ≤ 2 → length bound ≤ 256 → place image mode cursor kind bound .code ≡ 0
+is-taken = demands.is-taken
+
+-- Two images with the same live pairs have the same row, whatever their shape.
+pub same-row : (image other : List ℕ) → livePairs image ≡ livePairs other → (mode : StartMode) (cursor : List ℕ) (kind : ℕ) (bound : List ℕ)
+    → rowOf image mode cursor kind bound ≡ rowOf other mode cursor kind bound
+same-row = asked.same-row
+
+-- 02 [1]: up to eight bytes a placing begins by 01's own rule, over every image.
+pub placed-by-rule-01 : (image : List ℕ) (mode : StartMode) (cursor : List ℕ) (kind : ℕ) (bound : List ℕ)
+    → placeFault image cursor kind bound ≡ 0 → length cursor ≤ 8 → ByRule01 mode (place image mode cursor kind bound .walk)
+placed-by-rule-01 = scan.placed-by-rule-01
+
+-- THE TALLY: the check's number, else the placing's; and the length of the row above the cursor where both are 0, else 0.
+pub tally-says : (image cursor : List ℕ) (kind : ℕ) (bound : List ℕ)
+    → (tallyNumber (tally image cursor kind bound) ≡ pick (not (eqb (checkNumber (check image)) 0)) (checkNumber (check image)) (placeFault image cursor kind bound))
+    × (tallyCount (tally image cursor kind bound) ≡ pick (eqb (tallyNumber (tally image cursor kind bound)) 0) (length (rowOf image Above cursor kind bound)) 0)
+tally-says = survey.tally-says
+
+-- THE SHEET: of any bytes, all lines together, however many more are asked for.
+pub all-lines : (image : List ℕ) → Bytes image → (more : ℕ) → AllLines image more
+all-lines = listed.all-lines
+
+-- THE EXAMPLES P1 to P12, with the check's answers for their images.
+pub examples : map machineSays table ≡ map paperSays table
+examples = worked.examples
+
+-- THE C INTERFACE: a walk and its record are each read back from the other; and demand 3 of every list of `pb_step` calls on a record that
+-- `pb_place_above` or `pb_place_from` filled.
+pub record-inverse : (w : Walk) → record.Arrays w
+    → (isRecord (numbersOf w) (w .cursor .buf) (w .bound .key) ≡ true) × (readWalk (numbersOf w) (w .cursor .buf) (w .bound .key) ≡ w)
+record-inverse = record.record-inverse
+
+pub walk-inverse : (numbers buf bound : List ℕ) → isRecord numbers buf bound ≡ true
+    → (numbersOf (readWalk numbers buf bound) ≡ numbers) × (readWalk numbers buf bound .cursor .buf ≡ buf) × (readWalk numbers buf bound .bound .key ≡ bound)
+walk-inverse = record.walk-inverse
+
+pub c-demand-3 : (image : List ℕ) → Bytes image → checkNumber (check image) ≡ 0 → (mode : StartMode) (cursor : List ℕ) → Bytes cursor
+    → (kind : ℕ) (key numbers buf bound numbers′ buf′ bound′ : List ℕ)
+    → PutPlaced (place image mode cursor kind key) numbers buf bound 0 numbers′ buf′ bound′
+    → (calls : List CCall) → CLent image calls → CDemand3 image mode cursor kind key numbers′ buf′ bound′ calls
+c-demand-3 = c.c-demand-3
