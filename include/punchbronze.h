@@ -1,8 +1,9 @@
 /* The forward scan of a Masstree image, for C.
  *
  * The library is `target/staticlib/libpunchbronze.a`, which `rt staticlib punchbronze` writes. Behind this header stand proved
- * functions and nothing else: crates/punchbronze/src/lib.rt has their contracts, specs/Interface.antt beside it
- * what each call returns and leaves, and crates/walk_record/specs/Record.antt the record of a walk.
+ * functions and nothing else: crates/punchbronze/src/lib.rt has their contracts, crates/punchbronze/specs/Interface.antt what each
+ * call returns and leaves, crates/walk_record/specs/Record.antt the record of a walk, and crates/c_demands/specs/CDemand.antt what is
+ * proved of all steps of a walk together.
  *
  * A slice is a pointer and then a length, which counts elements and not bytes. What C must see to, since nothing can check it:
  *   - a pointer is not NULL, is aligned for its type and is good for its length, also where that is 0;

@@ -1,11 +1,11 @@
 -- THE THEOREM `c-demand-3`: demand 3 over the functions that C calls, for every list of calls of `pb_step` on a record that `pb_place_above`
 -- or `pb_place_from` filled. The idea of the proof: the record reads back as the walk that was placed, each call leaves a record that reads
 -- back as the walk after a step (proofs/Calls.antt), and demand 3 speaks of those steps.
-use Rattle.base.specs.Kit.{_≡_, ap, sym, _∙_, Bool, true, List, ℕ, _≤_, _<_, arith, length, getD}
+use Rattle.base.specs.Kit.{_≡_, ap, sym, _∙_, Bool, true, List, ℕ, _+_, _*_, _≤_, _<_, arith, length, getD}
 use Rattle.base.specs.Pick.{pick}
 use Rattle.base.proofs.Choice.{by-test}
 use Rattle.layering.specs.Sieve.{rowOf}
-use Rattle.verify.specs.Check.{checkNumber, check}
+use Rattle.verify.specs.Check.{checkNumber, checkCounts, check}
 use Rattle.walk.specs.Placing.{place}
 use Rattle.walk_record.specs.Record.{numbersOf}
 use Rattle.demands.specs.Demand.{due}
@@ -13,8 +13,8 @@ use Rattle.demands.proofs.Demand.{demand-3, is-taken}
 use Rattle.punchbronze.specs.Interface.{fitting, placedNumber, placedNumbers, placedBuf, placedBound, PutPlaced}
 use Rattle.punchbronze.proofs.Placing.{place-keeps}
 use Rattle.c_demands.specs.Types.{StartMode, Placed}
-use Rattle.c_demands.specs.CDemand.{CCall, CLent, CDemand3}
-use Rattle.c_demands.proofs.Calls.{asSteps, made-all, lent-all, follow-all}
+use Rattle.c_demands.specs.CDemand.{CCall, CLeft, Kept, CLent, made, cSaid, cMovesOf, CDemand3}
+use Rattle.c_demands.proofs.Calls.{kept-is, asSteps, made-all, lent-all, follow-all}
 
 -- A placing that returned 0: the lent record has a record's lengths, the placing was taken, and its walk was put there.
 module _ (p : Placed) (numbers buf bound numbers′ buf′ bound′ : List ℕ) (put : PutPlaced p numbers buf bound 0 numbers′ buf′ bound′) where
@@ -58,13 +58,20 @@ c-demand-3 image b a mode cursor bc kind key numbers buf bound numbers′ buf′
       bound-is p numbers buf bound numbers′ buf′ bound′ put,
     )
     (record {
-      says = rw (f .0, kept .1) (d .says ∙ ap (λ (made : List Bool). due made (rowOf image mode cursor kind key)) (made-all image calls));
+      says = rw (f .0, kept .1) (d .says ∙ ap (λ (which : List Bool). due which (rowOf image mode cursor kind key)) (made-all image calls));
       foreign = f .2;
       ascends = d .ascends;
       total = rw (f .1, kept .1) (d .total);
     })
 
--- COROLLARY. Over an accepted image a placing into a record of a record's lengths returns 0 where cursor, kind and bound key are in their limits.
+-- COROLLARIES. The same of anything that calls left which meet `pb_step`'s contract (`Kept`).
+pub by-contract : (image : List ℕ) (mode : StartMode) (cursor : List ℕ) (kind : ℕ) (key numbers buf bound : List ℕ) (calls : List CCall)
+    → CDemand3 image mode cursor kind key numbers buf bound calls → (lefts : List CLeft) → Kept numbers buf bound calls lefts
+    → (cSaid lefts ≡ due (made image calls) (rowOf image mode cursor kind key))
+    × (cMovesOf lefts ≤ checkCounts (check image) .leaves + checkCounts (check image) .«value_slots» + 4 * checkCounts (check image) .«sub_layers» + 2)
+by-contract image mode cursor kind key numbers buf bound calls d lefts h = rw (kept-is bound calls numbers buf lefts h) (d .says, d .total)
+
+-- Over an accepted image a placing into a record of a record's lengths returns 0 where cursor, kind and bound key are in their limits.
 pub is-placed : (image : List ℕ) → checkNumber (check image) ≡ 0 → (mode : StartMode) (cursor : List ℕ) (kind : ℕ) (key numbers buf bound : List ℕ)
     → fitting numbers buf bound ≡ true → length cursor ≤ 256 → kind ≤ 2 → length key ≤ 256
     → placedNumber (place image mode cursor kind key) numbers buf bound ≡ 0

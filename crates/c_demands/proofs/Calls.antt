@@ -13,7 +13,7 @@ use Rattle.record_step.proofs.Kept.{step-keeps}
 use Rattle.demands.specs.Demand.{Call, steps, Lent, saidBy, said, movesOf, own, Foreign}
 use Rattle.punchbronze.specs.Interface.{saidNumbers, outAfter, StepLeft}
 use Rattle.c_demands.specs.Types.{Answer, Key, Nothing, Declined, Stepped, Walk}
-use Rattle.c_demands.specs.CDemand.{CCall, CLeft, cStep, cSteps, CLent, isMade, made, cSaidBy, cSaid, cMovesBy, cMovesOf, Untouched, CForeign}
+use Rattle.c_demands.specs.CDemand.{CCall, CLeft, cStep, cSteps, Kept, CLent, isMade, made, cSaidBy, cSaid, cMovesBy, cMovesOf, Untouched, CForeign}
 
 -- A declined step has made no move, and its walk is as it came.
 stays-by : (w : Walk) (a : Answer) (moves : ℕ) (s : Scan) → (numberOf (stepped w a moves s .answer) ≡ 0 → ⊥)
@@ -60,7 +60,7 @@ asSteps image (c ∷ rest) = asStep image c ∷ asSteps image rest
 -- ONE CALL
 module _ (n b k : List ℕ) (c : CCall) where
   -- the contract says all that is left
-  pub left-is : (r : ℕ) (n′ b′ o′ : List ℕ) → StepLeft n b k (c .bytes) (c .out) r n′ b′ o′
+  left-is : (r : ℕ) (n′ b′ o′ : List ℕ) → StepLeft n b k (c .bytes) (c .out) r n′ b′ o′
       → record { number = r; numbers = n′; buf = b′; out = o′ } ≡ cStep n b k c
   unfolding cStep
   left-is r n′ b′ o′ m = rw (m .number, m .numbers-left, m .buf-left, m .out-left)
@@ -130,7 +130,16 @@ module _ (n b k : List ℕ) (c : CCall) where
       goes : Goes (asStep image c .bytes)
       goes = pick-ind Goes (eqb (length (c .out)) 4) goes-room goes-none
 
--- EVERY LIST OF CALLS
+-- EVERY LIST OF CALLS. What is left by the contract is what `cSteps` has.
+pub kept-is : (k : List ℕ) (calls : List CCall) (n b : List ℕ) (lefts : List CLeft) → Kept n b k calls lefts → lefts ≡ cSteps n b k calls
+unfolding Kept cSteps
+kept-is k [] n b [] h = refl
+kept-is k [] n b (s ∷ more) h = absurd h
+kept-is k (c ∷ rest) n b [] h = absurd h
+kept-is k (c ∷ rest) n b (s ∷ more) h =
+    let e : s ≡ cStep n b k c = left-is n b k c (s .number) (s .numbers) (s .buf) (s .out) (h .0) in
+    ap₂ _∷_ e (kept-is k rest (s .numbers) (s .buf) more (h .1) ∙ ap (λ (l : CLeft). cSteps (l .numbers) (l .buf) k rest) e)
+
 module _ (image : List ℕ) where
   made-is : (c : CCall) → eqb (length (asStep image c .bytes)) (length image) ≡ isMade image c
   unfolding isMade pick

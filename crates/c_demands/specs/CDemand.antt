@@ -7,7 +7,7 @@ use Rattle.layering.specs.Sieve.{rowOf}
 use Rattle.verify.specs.Check.{checkCounts, check}
 use Rattle.record_step.specs.Step.{stepNumber, stepNumbers, stepBuf}
 use Rattle.demands.specs.Demand.{Said, handsOut, none, declines, due}
-use Rattle.punchbronze.specs.Interface.{outAfter}
+use Rattle.punchbronze.specs.Interface.{outAfter, StepLeft}
 use Rattle.c_demands.specs.Types.{StartMode}
 
 -- A CALL of `pb_step`: the bytes that it is lent for the image, and the lent output, whatever that holds.
@@ -36,6 +36,14 @@ cSteps numbers buf bound [] = []
 cSteps numbers buf bound (c ∷ rest) =
     let s = cStep numbers buf bound c in
     s ∷ cSteps (s .numbers) (s .buf) bound rest
+
+-- The same by the contract alone: what each call left is what `pb_step` ensures of the record as the one before left it.
+unfoldable pub Kept : List ℕ → List ℕ → List ℕ → List CCall → List CLeft → Type 0
+Kept numbers buf bound [] [] = Unit {0}
+Kept numbers buf bound [] (s ∷ more) = ⊥
+Kept numbers buf bound (c ∷ rest) [] = ⊥
+Kept numbers buf bound (c ∷ rest) (s ∷ more) =
+    StepLeft numbers buf bound (c .bytes) (c .out) (s .number) (s .numbers) (s .buf) (s .out) × Kept (s .numbers) (s .buf) bound rest more
 
 -- Each is lent the image that the walk was placed over, or bytes of another length.
 unfoldable pub CLent : List ℕ → List CCall → Type 0
