@@ -24,6 +24,7 @@ use Rattle.sheet.specs.Sheet.{firstLine, pairLine, pairLines, lastLine, sheet, 
 use Rattle.listed.specs.Types.{From, Walk, Listing, First, Pairs, Refused, Done}
 use Rattle.listed.specs.CodeLines.{lineOf, noLine, begun, opened, sumOf, saidLine, lineAt, nextLine}
 use Rattle.listed.specs.Listed.{listedPairs, callsOf, walkMoves, listed, lineCount, linesOf, textOf, numbersOf, Filled, AllLines}
+use Rattle.listed.proofs.Few.{few-lines}
 use Rattle.listed.proofs.Fits.{Fits, written-len, written-text, first-fits, last-fits, refused-fits, pair-fits}
 
 -- A key of at most 256 bytes.
@@ -162,6 +163,7 @@ module _ (image : List ℕ) where
     text = rw (← q, e, g) (c .text-is);
     numbers = rw (← q, e) (c .numbers-are);
     filled = rw (f, e) (c .filled-are);
+    few = few-lines image;
   }
 
 -- THE THEOREM, of any image of bytes and any number of calls past its sheet's end.

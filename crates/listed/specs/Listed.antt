@@ -1,7 +1,7 @@
 -- THE WHOLE SHEET OF AN IMAGE (01, "Surveyed examples": "The first line has the edition and the trailer's key count; then lower-case hex
 -- key (- for empty) and decimal value; last the walk's moves"; "A declined image prints only `refused n`"), the walk being that from the
 -- empty key on, unbounded; and what all lines that the functions give come to.
-use Rattle.base.specs.Kit.{List, [], _∷_, _++_, _≡_, ℕ, zero, suc, _+_, _<_, eqb, length, take, replicate}
+use Rattle.base.specs.Kit.{List, [], _∷_, _++_, _≡_, ℕ, zero, suc, _+_, _≤_, _<_, eqb, length, take, replicate}
 use Rattle.base.specs.Pick.{pick}
 use Rattle.node.specs.Layout.{keyCount}
 use Rattle.layering.specs.Keys.{Pair}
@@ -54,9 +54,11 @@ unfoldable pub Filled : List Line → Type 0
 Filled [] = Unit {0}
 Filled (x ∷ xs) = (0 < x .len) × Filled xs
 
--- WHAT THEY COME TO, of any number of calls more than the sheet has lines: together they are the sheet; none was declined; and as long
--- as the sheet goes on a line has bytes, so that the first without is behind its end.
+-- WHAT THEY COME TO, of any number of calls more than the sheet has lines: together they are the sheet; none was declined; as long as
+-- the sheet goes on a line has bytes, so that the first without is behind its end; and there are no more lines than the image has bytes,
+-- and two.
 pub record AllLines (image : List ℕ) (more : ℕ) : Type 0 where
   pub text : textOf (linesOf image (lineCount image + more) (opened image)) ≡ listed image
   pub numbers : numbersOf (linesOf image (lineCount image + more) (opened image)) ≡ replicate (lineCount image + more) 0
   pub filled : Filled (linesOf image (lineCount image) (opened image))
+  pub few : lineCount image ≤ length image + 2
