@@ -9,7 +9,7 @@ use Rattle.verify.specs.Check.{checkCounts, check}
 use Rattle.walk.specs.Walk.{numberOf, keysOf, lenOf, valueOf}
 use Rattle.walk.specs.Placing.{place}
 use Rattle.lent.specs.Form.{Form, stepAs}
-use Rattle.demands.specs.Types.{Counts, StartMode, Walk, Stepped}
+use Rattle.demands.specs.Types.{StartMode, Walk, Stepped}
 
 -- A CALL of the step: its form, by value or with the walk lent, and the bytes that it is lent for the image.
 pub record Call : Type 0 where

@@ -1,5 +1,5 @@
 -- A sheet has no more lines than its image has bytes, and two.
-use Rattle.base.specs.Kit.{_≡_, Bool, List, [], _∷_, _++_, ℕ, _+_, _≤_, arith, eqb, length, length-append, eqb-true}
+use Rattle.base.specs.Kit.{Bool, List, [], _∷_, _++_, ℕ, _+_, _≤_, arith, eqb, length, length-append, eqb-true}
 use Rattle.base.proofs.Choice.{pick-ind}
 use Rattle.key.specs.Ikey.{ikeyBytes}
 use Rattle.layering.specs.Tree.{Node, leaf, internode, beyond, Kids, last, more, Slots, none, value, layer, treeOf}
@@ -46,7 +46,11 @@ few-lines image =
     let from = sieve (past From []) (livePairs image) in
     pick-ind (λ (n : ℕ). n ≤ length image + 2) (eqb (checkNumber (check image)) 0)
     (λ t.
-    omega
-    (arith, few-sieve (contains 0 []) from, few-sieve (past From []) (livePairs image), few-pairsN (treeOf image) [],
-    moves-fit image (accepted-obeys image (eqb-true _ 0 t) .0)))
+    omega (
+      arith,
+      few-sieve (contains 0 []) from,
+      few-sieve (past From []) (livePairs image),
+      few-pairsN (treeOf image) [],
+      moves-fit image (accepted-obeys image (eqb-true _ 0 t) .0),
+    ))
     (λ f. omega arith)

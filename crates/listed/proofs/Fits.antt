@@ -1,8 +1,8 @@
 -- Every line of a sheet fits into the 534 bytes that it is written into, and has at least one.
-use Rattle.base.specs.Kit.{_≡_, sym, ap, _∙_, List, [], _∷_, ℕ, _+_, _≤_, _<_, le-refl, zero-add, arith, length, take, length-append, length-replicate, take-length, paste, take-paste, le-leb}
+use Rattle.base.specs.Kit.{_≡_, sym, ap, _∙_, List, [], _∷_, ℕ, _≤_, _<_, le-refl, zero-add, arith, length, take, length-append, length-replicate, take-length, paste, take-paste, le-leb}
 use Rattle.base.specs.Pick.{pick}
 use Rattle.layering.specs.Keys.{Pair}
-use Rattle.sheet.specs.Sheet.{hexBytes, hexKey, decimal, firstLine, pairLine, lastLine, refused}
+use Rattle.sheet.specs.Sheet.{hexKey, firstLine, pairLine, lastLine, refused}
 use Rattle.sheet.specs.Written.{writtenLen, writtenOut}
 use Rattle.sheet.proofs.Decimal.{decimal-length}
 use Rattle.sheet.proofs.Hex.{hexBytes-length}

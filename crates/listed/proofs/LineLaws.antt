@@ -1,5 +1,5 @@
 -- The ways out of the functions, one law for each.
-use Rattle.base.specs.Kit.{_≡_, sym, _∙_, ap, subst, List, [], ℕ, _+_, _%_, _^_, _≤_, arith, eqb, length, take, ne-eqb}
+use Rattle.base.specs.Kit.{_≡_, sym, _∙_, ap, subst, List, ℕ, _+_, _%_, _^_, _≤_, arith, length, take, ne-eqb}
 use Rattle.base.specs.Pick.{pick}
 use Rattle.node.specs.Layout.{keyCount}
 use Rattle.verify.specs.Check.{checkNumber, check}

@@ -1,7 +1,7 @@
 -- THE WHOLE SHEET: for every image, the lines of `open` and `next_line` together are the definition's sheet, however many more are asked
 -- for. The idea of the proof: what the walk's steps say is demand 3's row and then none, so each step's line is the next of the sheet;
 -- and demand 3's bound on the moves keeps their sum from wrapping.
-use Rattle.base.specs.Kit.{_≡_, refl, sym, ap, _∙_, subst, Bool, true, List, [], _∷_, _++_, append-assoc, append-nil, inl, ℕ, zero, suc, _+_, _%_, _^_, _≤_, _<_, zero-add, add-one, mod-eq-of-lt, arith, eqb, length, getD, replicate, eq-eqb, eqb-true}
+use Rattle.base.specs.Kit.{_≡_, refl, sym, ap, _∙_, subst, Bool, true, List, [], _∷_, _++_, append-assoc, append-nil, inl, ℕ, zero, suc, _+_, _^_, _≤_, _<_, zero-add, add-one, mod-eq-of-lt, arith, eqb, length, getD, replicate, eq-eqb, eqb-true}
 use Rattle.base.specs.Pick.{pick}
 use Rattle.base.proofs.Choice.{by-test}
 use Rattle.node.specs.Layout.{keyCount}
@@ -18,7 +18,7 @@ use Rattle.verify.proofs.Theorem.{accepted-obeys}
 use Rattle.walk.specs.Placing.{place}
 use Rattle.scan.specs.Machine.{step}
 use Rattle.lent.specs.Form.{stepAs}
-use Rattle.demands.specs.Demand.{Call, steps, Lent, Said, handsOut, none, saidBy, said, movesOf, own, headSaid, tailOf, due}
+use Rattle.demands.specs.Demand.{steps, Lent, Said, handsOut, none, saidBy, said, movesOf, own, headSaid, tailOf, due}
 use Rattle.demands.proofs.Demand.{demand-3, is-taken}
 use Rattle.sheet.specs.Sheet.{firstLine, pairLine, pairLines, lastLine, sheet, refused}
 use Rattle.listed.specs.Types.{From, Walk, Listing, First, Pairs, Refused, Done}

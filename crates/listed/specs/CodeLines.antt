@@ -9,7 +9,7 @@ use Rattle.scan.specs.Machine.{step}
 use Rattle.demands.specs.Demand.{Said, handsOut, none, declines, saidBy}
 use Rattle.sheet.specs.Sheet.{firstLine, pairLine, lastLine, refused}
 use Rattle.sheet.specs.Written.{writtenLen, writtenOut}
-use Rattle.listed.specs.Types.{From, Stepped, Walk, Line, Listing, Stage, First, Pairs, Refused, Done}
+use Rattle.listed.specs.Types.{From, Stepped, Line, Listing, Stage, First, Pairs, Refused, Done}
 
 -- A line's bytes before it is written.
 unfoldable pub blank : List ℕ

@@ -181,9 +181,7 @@ fn step_line(listing: Listing, image: &[u8]) -> Line
     let walk = s.walk;
     let moves = std::num::wrapping_add_usize(listing.moves, s.moves);
     match answer {
-        Answer::Key { len, value } => {
-            pair_line(len, value, at_stage(Stage::Pairs, moves, walk))
-        }
+        Answer::Key { len, value } => { pair_line(len, value, at_stage(Stage::Pairs, moves, walk)) }
         Answer::Nothing => last_line(moves, at_stage(Stage::Done, moves, walk)),
         Answer::Declined(_) => last_line(moves, at_stage(Stage::Done, moves, walk)),
     }

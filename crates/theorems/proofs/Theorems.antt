@@ -4,7 +4,7 @@
 -- What functions return is fixed by their contracts, which are equations with definitions of the same names: `check_image` (verify/src/lib.rt),
 -- `place` and `place_short` (walk/src/placing.rt), `step` (scan/src/step.rt), `step_lent` (lent/src/lib.rt), `tally` (survey/src/lib.rt),
 -- `open` and `next_line` (listed/src/lib.rt), and the five of punchbronze/src/lib.rt. None of them has a `requires`.
-use Rattle.base.specs.Kit.{_≡_, true, not, map, List, _⊎_, ℕ, _+_, _≤_, _<_, eqb, length, getD}
+use Rattle.base.specs.Kit.{_≡_, true, not, map, List, ℕ, _≤_, _<_, eqb, length, getD}
 use Rattle.base.specs.Pick.{pick}
 use Rattle.cursor.specs.declared.range_bound.StartMode.{StartMode}
 use Rattle.cursor.specs.declared.range_bound.StartMode.the-variants.{Above}
@@ -33,7 +33,7 @@ use Rattle.scan.proofs.ByRule01 as scan
 use Rattle.survey.proofs.Theorem as survey
 use Rattle.listed.proofs.Listed as listed
 use Rattle.worked_examples.proofs.Examples as worked
-use Rattle.walk_record.proofs.Inverse as record
+use Rattle.walk_record.proofs.Inverse as inverse
 use Rattle.c_demands.proofs.CDemand as c
 
 abbrev Bytes : List ℕ → Type 0
@@ -96,13 +96,13 @@ examples = worked.examples
 
 -- THE C INTERFACE: a walk and its record are each read back from the other; and demand 3 of every list of `pb_step` calls on a record that
 -- `pb_place_above` or `pb_place_from` filled.
-pub record-inverse : (w : Walk) → record.Arrays w
+pub record-inverse : (w : Walk) → inverse.Arrays w
     → (isRecord (numbersOf w) (w .cursor .buf) (w .bound .key) ≡ true) × (readWalk (numbersOf w) (w .cursor .buf) (w .bound .key) ≡ w)
-record-inverse = record.record-inverse
+record-inverse = inverse.record-inverse
 
 pub walk-inverse : (numbers buf bound : List ℕ) → isRecord numbers buf bound ≡ true
     → (numbersOf (readWalk numbers buf bound) ≡ numbers) × (readWalk numbers buf bound .cursor .buf ≡ buf) × (readWalk numbers buf bound .bound .key ≡ bound)
-walk-inverse = record.walk-inverse
+walk-inverse = inverse.walk-inverse
 
 pub c-demand-3 : (image : List ℕ) → Bytes image → checkNumber (check image) ≡ 0 → (mode : StartMode) (cursor : List ℕ) → Bytes cursor
     → (kind : ℕ) (key numbers buf bound numbers′ buf′ bound′ : List ℕ)
