@@ -1,7 +1,7 @@
 #!/bin/sh
 # Builds the static library and the examples, in C and in Rust, and runs them on all samples: both must write the same, and pages of twenty
-# keys, each a walk of its own above the last key of the page before, must have the list's keys. Needs rt, cc and cargo; no network. What
-# is built goes into target/.
+# keys, each a walk of its own above the last key of the page before, must have the list's keys. The list of tree A is held to a.txt. Needs
+# rt, cc and cargo; no network. What is built goes into target/.
 set -eu
 cd "$(dirname "$0")/.."
 rt staticlib punchbronze
@@ -23,5 +23,7 @@ for image in samples/*.img; do
         cmp $out/list.keys $out/page.keys
     fi
 done
-$out/list samples/a.img
+$out/list samples/a.img >$out/list.txt
+cmp $out/list.txt examples/a.txt
+cat $out/list.txt
 echo "examples: ok"

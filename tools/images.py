@@ -55,16 +55,16 @@ def suffixed(n):
     return Leaf(Slot(b"12345678", 1, suffix=b"s" * n))
 
 
-def cave():
-    """Some hundred stations over several layers and leaves; one name begins many others."""
+def many_names():
+    """Some hundred names over several layers and leaves; one name begins many others."""
     names = [b""]
-    for shaft in range(6):
-        names.append(b"entrance.%d" % shaft)
-        for station in range(20):
-            names.append(b"entrance.%d.station.%02d" % (shaft, station))
-    for gallery in range(12):
-        names.append(b"gallery%d" % gallery)
-        names.append(b"gallery%d.sump" % gallery)
+    for front in range(6):
+        names.append(b"entrance.%d" % front)
+        for i in range(20):
+            names.append(b"entrance.%d.station.%02d" % (front, i))
+    for front in range(12):
+        names.append(b"gallery%d" % front)
+        names.append(b"gallery%d.sump" % front)
     return tree_of({name: 100 + i for i, name in enumerate(sorted(names))})
 
 
@@ -198,7 +198,7 @@ def table():
 SAMPLES = {
     "a": lambda: build(tree_a()),
     "b": lambda: build(tree_b()),
-    "cave": lambda: build(cave()),
+    "cave": lambda: build(many_names()),
     "dead": lambda: build(Leaf(*[Slot(b"st%02d" % i, i, live=i % 3 != 1) for i in range(12)])),
     "damaged": lambda: changed(tree_b(), "<Q", lambda t: t.slots[0].sub.at + 392, 8),
 }

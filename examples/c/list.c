@@ -1,4 +1,5 @@
-/* Lists the keys of an image: list FILE. Each line is the key's bytes in hex, and its value; the last line is the moves. */
+/* Lists the keys of an image: list FILE. The first line has the check's three numbers, the last one the moves; between them each line is a
+ * key's bytes in hex, and its value. An image that the check declines prints `refused` and its number. */
 #include "file.h"
 
 int main(int argc, char **argv)

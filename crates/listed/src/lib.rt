@@ -5,11 +5,11 @@
 use cursor::range_bound::StartMode;
 use node::trailer;
 use verify::Checked;
+use walk::answer;
 use walk::scan_state::Answer;
 use walk::scan_state::Walk;
 ghost use Rattle.base.specs.Kit.{_≡_, take};
 ghost use Rattle.scan.specs.Machine.{step};
-ghost use Rattle.walk.specs.Walk.{numberOf};
 ghost use Rattle.sheet.specs.Sheet.{firstLine, pairLine, lastLine, refused};
 ghost use Rattle.listed.specs.CodeLines.{lineOf, noLine, begun, opened, stepLine, nextLine};
 
@@ -146,17 +146,6 @@ fn pair_line(n: usize, value: u64, listing: Listing) -> Line
     }
 }
 
-// 01's number of a step's answer, 0 where it was not declined.
-fn number_of(answer: Answer) -> u8
-    ensures { λ r. ⌜ r ≡ numberOf answer ⌝ }
-{
-    match answer {
-        Answer::Key { len: _, value: _ } => 0,
-        Answer::Nothing => 0,
-        Answer::Declined(n) => n,
-    }
-}
-
 // A listing further on.
 fn at_stage(stage: Stage, moves: usize, walk: Walk) -> Listing
     ensures { λ r. ⌜ r ≡ record { stage = stage; moves = moves; walk = walk } ⌝ }
@@ -174,7 +163,7 @@ fn step_line(listing: Listing, image: &[u8]) -> Line
 {
     let s = scan::step::step(listing.walk, image);
     let answer = s.answer;
-    let number = number_of(answer);
+    let number = answer::answer_number(answer);
     if number != 0 {
         return no_line(number, listing);
     }

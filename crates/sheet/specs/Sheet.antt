@@ -30,7 +30,7 @@ hexKey (b ∷ s) = hexBytes (b ∷ s)
 abbrev pub firstLine : ℕ → List ℕ
 firstLine count = (115 ∷ 104 ∷ 101 ∷ 101 ∷ 116 ∷ 32 ∷ 49 ∷ 32 ∷ 107 ∷ 101 ∷ 121 ∷ 115 ∷ 32 ∷ []) ++ decimal count ++ (10 ∷ [])
 
--- One station: key, space, value.
+-- One pair: key, space, value.
 unfoldable pub pairLine : Pair → List ℕ
 pairLine x = hexKey (x .key) ++ (32 ∷ []) ++ decimal (x .value) ++ (10 ∷ [])
 

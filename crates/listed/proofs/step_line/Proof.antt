@@ -7,7 +7,7 @@ use Rattle.listed.proofs.step_line.Tie as tie
 
 returns : tie.Need-returns
 returns c =
-    step-declines _ _ _ (c .before .before .before .step .ensures) _ _ (c .before .before .number-of .ensures) (c .before .if1 .taken) (c .no-line .ensures)
+    step-declines _ _ _ (c .before .before .before .step .ensures) _ _ (c .before .before .answer-number .ensures) (c .before .if1 .taken) (c .no-line .ensures)
 
 returns-2 : tie.Need-returns-2
 returns-2 c =
@@ -25,7 +25,7 @@ returns-4 : tie.Need-returns-4
 returns-4 c =
     step-zero _ _ _ (c .before .before .before .before .before .before .before .before .step .ensures) _ _
     (c .before .before .before .before .wrapping-add-usize .ensures) _ (c .before .at-stage3 .ensures) (c .last-line2 .ensures)
-    _ (c .before .before .enum-told2 .given .1) (sym (c .before .before .before .before .before .before .before .number-of .ensures) ∙ c .before .before .before .before .before .before .if1 .left)
+    _ (c .before .before .enum-told2 .given .1) (sym (c .before .before .before .before .before .before .before .answer-number .ensures) ∙ c .before .before .before .before .before .before .if1 .left)
 
 pub step-line-spec : {M : Type 1} → statement M
 step-line-spec =
