@@ -1,15 +1,15 @@
 #!/usr/bin/env python3
-"""Makes the images that bench/run times, those that are not there yet, and prints their names: bench/make_images.py FOLDER [pages]
+"""Makes the images that bench/run times, those that are not there yet, and prints their names: bench/make_images.py FOLDER [pages | stack]
 
 Keys are random bytes, the same ones each time. Leaves are full, no slot is dead, and internodes have sixteen children. With `pages` the
-images are those for pages, whose names have 200 bytes.
+images are those for pages, whose names have 200 bytes; with `stack` the deepest that can be accepted, and one of short keys.
 """
 import os
 import random
 import sys
 
 sys.path.insert(0, os.path.join(os.path.dirname(os.path.dirname(os.path.abspath(__file__))), "tools"))
-from layout import build, tree_of
+from layout import Internode, Leaf, Slot, build, tree_of
 
 SHORT = 440_000  # 28 bytes of image a key: below the 16 MiB that an image may have
 
@@ -62,14 +62,28 @@ PAGES = {
 }
 
 
+def deepest():
+    """31 layers below the root, and in each layer twelve internodes above its leaf."""
+    node = None
+    for _ in range(32):
+        node = Leaf(Slot(b"k", 1)) if node is None else Leaf(Slot(b"x" * 8, sub=node))
+        for _ in range(12):
+            node = Internode([], node)
+    return node
+
+
+STACK = {"deepest": None, "short": IMAGES["short"]}
+
+
 def main():
-    if len(sys.argv) < 2 or sys.argv[2:] not in ([], ["pages"]):
+    which = {(): IMAGES, ("pages",): PAGES, ("stack",): STACK}.get(tuple(sys.argv[2:]))
+    if len(sys.argv) < 2 or which is None:
         sys.exit(__doc__)
-    for name, keys in (PAGES if sys.argv[2:] else IMAGES).items():
+    for name, keys in which.items():
         path = os.path.join(sys.argv[1], name + ".img")
         if not os.path.exists(path):
             r = random.Random(name)
-            image = build(tree_of({key: r.randrange(1 << 64) for key in keys(r)}))
+            image = build(tree_of({key: r.randrange(1 << 64) for key in keys(r)}) if keys else deepest())
             with open(path + ".part", "wb") as f:
                 f.write(image)
             os.rename(path + ".part", path)
