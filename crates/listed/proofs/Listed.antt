@@ -23,7 +23,7 @@ use Rattle.demands.proofs.Demand.{demand-3, is-taken}
 use Rattle.sheet.specs.Sheet.{firstLine, pairLine, pairLines, lastLine, sheet, refused}
 use Rattle.listed.specs.Types.{From, Walk, Listing, First, Pairs, Refused, Done}
 use Rattle.listed.specs.CodeLines.{lineOf, noLine, begun, opened, sumOf, saidLine, lineAt, nextLine}
-use Rattle.listed.specs.Listed.{listedPairs, callsOf, walkMoves, listed, lineCount, linesOf, textOf, numbersOf, Filled, AllLines}
+use Rattle.listed.specs.Listed.{listedPairs, callsOf, walkMoves, listed, lineCount, linesOf, textOf, lineNumbers, Filled, AllLines}
 use Rattle.listed.proofs.Few.{few-lines}
 use Rattle.listed.proofs.Fits.{Fits, written-len, written-text, first-fits, last-fits, refused-fits, pair-fits}
 
@@ -35,12 +35,12 @@ module _ (image : List ℕ) where
   -- n calls come to a text, none declined, and the first k have bytes
   record Comes (k n : ℕ) (l : Listing) (text : List ℕ) : Type 0 where
     text-is : textOf (linesOf image n l) ≡ text
-    numbers-are : numbersOf (linesOf image n l) ≡ replicate n 0
+    numbers-are : lineNumbers (linesOf image n l) ≡ replicate n 0
     filled-are : Filled (linesOf image k l)
 
   -- nothing behind the end
   done : (n m : ℕ) (w : Walk) → Comes 0 n (record { stage = Done; moves = m; walk = w }) []
-  unfolding linesOf textOf numbersOf Filled nextLine lineAt noLine
+  unfolding linesOf textOf lineNumbers Filled nextLine lineAt noLine
   done zero m w = record { text-is = refl; numbers-are = refl; filled-are = tt }
   done (suc n) m w = record {
     text-is = done n m w .text-is;
@@ -51,7 +51,7 @@ module _ (image : List ℕ) where
   -- a line more in front
   more : (k n : ℕ) (l to : Listing) (text rest : List ℕ) → Fits text → nextLine l image ≡ lineOf text to → Comes k n to rest
       → Comes (suc k) (suc n) l (text ++ rest)
-  unfolding linesOf textOf numbersOf Filled lineOf
+  unfolding linesOf textOf lineNumbers Filled lineOf
   more k n l to text rest f e c = record {
     text-is = rw e (rw (written-text text f, c .text-is));
     numbers-are = rw e (ap {B = List ℕ} (λ t. 0 ∷ t) (c .numbers-are));

@@ -46,9 +46,9 @@ unfoldable pub textOf : List Line → List ℕ
 textOf [] = []
 textOf (x ∷ xs) = take (x .len) (x .bytes) ++ textOf xs
 
-unfoldable pub numbersOf : List Line → List ℕ
-numbersOf [] = []
-numbersOf (x ∷ xs) = x .number ∷ numbersOf xs
+unfoldable pub lineNumbers : List Line → List ℕ
+lineNumbers [] = []
+lineNumbers (x ∷ xs) = x .number ∷ lineNumbers xs
 
 unfoldable pub Filled : List Line → Type 0
 Filled [] = Unit {0}
@@ -59,6 +59,6 @@ Filled (x ∷ xs) = (0 < x .len) × Filled xs
 -- and two.
 pub record AllLines (image : List ℕ) (more : ℕ) : Type 0 where
   pub text : textOf (linesOf image (lineCount image + more) (opened image)) ≡ listed image
-  pub numbers : numbersOf (linesOf image (lineCount image + more) (opened image)) ≡ replicate (lineCount image + more) 0
+  pub numbers : lineNumbers (linesOf image (lineCount image + more) (opened image)) ≡ replicate (lineCount image + more) 0
   pub filled : Filled (linesOf image (lineCount image) (opened image))
   pub few : lineCount image ≤ length image + 2
