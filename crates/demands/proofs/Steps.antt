@@ -7,7 +7,7 @@ use Rattle.cursor.specs.RangeBound.{contains}
 use Rattle.demands.specs.Types.{RangeBound, Ended, Walk, Nothing, Declined, Stepped}
 use Rattle.layering.proofs.Sieve.{front}
 use Rattle.layering.proofs.Walk.{Conf, over, rest, left, pot}
-use Rattle.moves.specs.Moves.{InRange}
+use Rattle.moves.specs.CodeMoves.{InRange}
 use Rattle.walk.specs.Walk.{numberOf, keysOf, lenOf, valueOf, walkOk}
 use Rattle.scan.specs.Machine.{Ran, run, isEnded, ctxOf, scanOf, finished, advance, step}
 use Rattle.scan.specs.CodeLoop.{runBy, allBy, keysAhead, keysLeft}

@@ -1,6 +1,7 @@
 -- Copies by words: eight bytes are a word, and a word may be copied over the end of what is copied already.
 use Rattle.base.specs.Kit.{_≡_, sym, _∙_, ap, List, _++_, append-assoc, append-nil, ℕ, _+_, _-_, _≤_, min, zero-min, arith, length, take, drop, replicate, length-drop, paste, paste-zero, length-take-le, take-length, take-take, take-add, take-append-add, take-paste, drop-drop, drop-paste}
-use Rattle.key.specs.Part.{part, pasteWord}
+use Rattle.key.specs.Part.{part}
+use Rattle.key.specs.CodeWords.{pasteWord}
 
 -- eight bytes that go through a word of their own
 module _ (s : List ℕ) (i : ℕ) {from : ℕ} {p : List ℕ} (long : 8 ≤ length s) (e : from ≡ min i (length s - 8)) (g : p ≡ part s from 8) where

@@ -1,3 +1,4 @@
 pub mod Order
 pub mod Ikey
 pub mod Part
+pub mod CodeWords

@@ -1,4 +1,4 @@
--- Parts of byte strings, words of them, and byte strings in a buffer of 256 bytes.
+-- Parts of byte strings, and byte strings in a buffer of 256 bytes.
 use Rattle.base.specs.Kit.{List, _++_, ℕ, _+_, _-_, min, length, take, drop, replicate, paste}
 
 -- The n bytes of s from `at` on.
@@ -8,7 +8,3 @@ part s at n = take n (drop at s)
 -- A byte string in a buffer of 256 bytes (01: "Buffers are zero past what they hold").
 unfoldable pub padded : List ℕ → List ℕ
 padded s = s ++ replicate (256 - length s) 0
-
--- d, in which s begins at `at`, with a word of s in it: the eight bytes from i on, or the last eight where fewer are left.
-unfoldable pub pasteWord : List ℕ → ℕ → List ℕ → ℕ → List ℕ
-pasteWord d at s i = let from = min i (length s - 8) in paste d (at + from) (part s from 8) 8

@@ -2,10 +2,11 @@
 //
 // Interface: every public function here. `part_of`, `copy_in`, `copy_words_in` and `padded` ask that what they read or
 // fill is long enough; each result is fixed by a definition of specs/ or of the library.
-ghost use Rattle.base.specs.Kit.{_≡_, _+_, _≤_, min, getD, length, paste};
+ghost use Rattle.base.specs.Kit.{_≡_, _+_, _≤_, min, getD, length, paste, take};
 ghost use Rattle.key.specs.Order.{byteOrder};
 ghost use Rattle.key.specs.Ikey.{ikeyOf, ikeyBytes};
-ghost use Rattle.key.specs.Part.{part, padded, pasteWord};
+ghost use Rattle.key.specs.Part.{part, padded};
+ghost use Rattle.key.specs.CodeWords.{pasteWord};
 
 // The answer of a comparison.
 pub enum Ordering {
@@ -21,6 +22,16 @@ pub fn part_of<'a>(s: &'a [u8], at: usize, n: usize) -> &'a [u8]
 {
     let end = at + n;
     &s[at..end]
+}
+
+// The first n bytes of a slice, or all where it has no more.
+pub fn first<'a>(s: &'a [u8], n: usize) -> &'a [u8]
+    ensures { λ r. ⌜ now r ≡ take n (now (s .entry)) ⌝ }
+{
+    if s.len() < n {
+        return s;
+    }
+    part_of(s, 0, n)
 }
 
 // Plain byte order of two keys.

@@ -3,7 +3,9 @@
 // Interface: `open` takes an image, and `next_line` gives the next line of its sheet, until a line has no bytes; both take anything and
 // have no `requires`. All lines together are the sheet: specs/Listed.antt says so, and proofs/Listed.antt has the theorem.
 use cursor::range_bound::StartMode;
+use key::first;
 use node::trailer;
+use sheet::LINE;
 use verify::Checked;
 use walk::answer;
 use walk::scan_state::Answer;
@@ -12,9 +14,6 @@ ghost use Rattle.base.specs.Kit.{_≡_, take};
 ghost use Rattle.scan.specs.Machine.{step};
 ghost use Rattle.sheet.specs.Sheet.{firstLine, pairLine, lastLine, refused};
 ghost use Rattle.listed.specs.CodeLines.{lineOf, noLine, begun, opened, stepLine, nextLine};
-
-// The longest line of a sheet: a key of 256 bytes in hex, a space, twenty digits and a newline.
-pub const LINE: usize = 534;
 
 // What comes next: the first line, with the trailer's key count; the pairs and the last line; a decline's only line; or nothing.
 pub enum Stage {
@@ -119,16 +118,6 @@ fn last_line(moves: usize, listing: Listing) -> Line
     }
 }
 
-// The first n bytes of a buffer.
-fn front<'a>(s: &'a [u8], n: usize) -> &'a [u8]
-    ensures { λ r. ⌜ now r ≡ take n (now (s .entry)) ⌝ }
-{
-    if s.len() < n {
-        return s;
-    }
-    key::part_of(s, 0, n)
-}
-
 // A key's line: the key is the first n bytes of the walk's buffer.
 fn pair_line(n: usize, value: u64, listing: Listing) -> Line
     ensures { λ r. ⌜ r ≡ lineOf (pairLine (record { key = take n (listing .walk .cursor .buf); value = value })) listing ⌝ }
@@ -137,7 +126,7 @@ fn pair_line(n: usize, value: u64, listing: Listing) -> Line
     let cursor = walk.cursor;
     let buf = cursor.buf;
     let mut bytes = [0u8; LINE];
-    let len = sheet::pair_line(&mut bytes, front(&buf, n), value);
+    let len = sheet::pair_line(&mut bytes, first(&buf, n), value);
     Line {
         number: 0,
         len: len,

@@ -10,7 +10,8 @@ use Rattle.start.specs.Start.{startPosition}
 use Rattle.search.proofs.Answers.{suffix-in}
 use Rattle.search.proofs.Laws.{leaf-there, reach-leaf}
 use Rattle.start.proofs.StartLaws.{enter-within}
-use Rattle.moves.specs.Moves.{Taken, begin, startIn, findStart, passIn, InBuffer}
+use Rattle.moves.specs.Moves.{Taken, begin, startIn, findStart, passIn}
+use Rattle.moves.specs.CodeMoves.{InBuffer}
 
 module _ (image : List ℕ) (leaf : ℕ) where
   -- a leaf that a call found to stand there lies in the image

@@ -10,7 +10,8 @@ use Rattle.search.specs.Traversal.{reach}
 use Rattle.start.specs.Start.{startPosition}
 use Rattle.search.proofs.Laws.{lower-within}
 use Rattle.start.proofs.StartLaws.{start-within, enter-within}
-use Rattle.moves.specs.Moves.{faulted, standing, begin, startIn, findStart, retryIn, findRetry, handleDown, handleUp, advanceLeaf, Taken, kept, onward, emitKey, isStorable, keyPlace, handOut, takeKey, takeLayer, takeSlot, unlessDup, backToRetry, findSlot, findNext, passIn, InBuffer, InRange}
+use Rattle.moves.specs.Moves.{faulted, standing, begin, startIn, findStart, retryIn, findRetry, handleDown, handleUp, advanceLeaf, Taken, kept, onward, emitKey, isStorable, keyPlace, handOut, takeKey, takeLayer, takeSlot, unlessDup, backToRetry, findSlot, findNext, passIn}
+use Rattle.moves.specs.CodeMoves.{InBuffer, InRange}
 use Rattle.moves.proofs.StoredKey.{stored, key-fits, key-buf-length}
 
 -- At the loop's head, by the state: the cursor stands at the place of the layer that `depth` counts; for Down that layer has

@@ -12,7 +12,8 @@ use search::helper;
 use search::traversal;
 ghost use Rattle.base.specs.Kit.{_≡_, true, _≤_};
 ghost use Rattle.search.specs.Traversal.{leafThere};
-ghost use Rattle.moves.specs.Moves.{handleDown, handleUp, MoveOk, passIn};
+ghost use Rattle.moves.specs.Moves.{handleDown, handleUp, passIn};
+ghost use Rattle.moves.specs.CodeMoves.{MoveOk};
 
 pub mod context;
 pub mod fast_path;

@@ -3,7 +3,8 @@
 use Rattle.base.specs.Kit.{_≡_, refl, sym, _∙_, List, [], _∷_, ℕ, arith, eqb, length, eqb-true, eq-eqb, ne-eqb}
 use Rattle.base.specs.Pick.{pick}
 use Rattle.base.proofs.Choice.{by-test}
-use Rattle.record_step.specs.Step.{stepNumber, left, stepOut, StepMade}
+use Rattle.record_step.specs.Step.{stepNumber, left}
+use Rattle.record_step.specs.CodeStep.{stepOut, StepMade}
 use Rattle.survey.specs.Tally.{tallyCount}
 use Rattle.punchbronze.specs.Types.{Checked, Tallied}
 use Rattle.punchbronze.specs.Interface.{countNumbers, countsAfter, saidNumbers, outAfter, StepLeft, countAfter}

@@ -7,19 +7,21 @@ use Rattle.node.specs.Layout.{InSlot}
 use Rattle.record_step.specs.Types.{Slot, CursorPlace, At, Out, Past, Walk, WalkState, FindNext, Ended, Key, Nothing}
 use Rattle.cursor.specs.CursorKey.{withIkey, withLength}
 use Rattle.search.specs.Traversal.{leafThere}
-use Rattle.moves.specs.Moves.{onward, isStorable, keyPlace, keyBuf, InRange}
+use Rattle.moves.specs.Moves.{onward, isStorable, keyPlace, keyBuf}
+use Rattle.moves.specs.CodeMoves.{InRange}
 use Rattle.moves.specs.CodeFastPath.{fastSlot, nextKey}
 use Rattle.search.proofs.Laws.{leaf-there}
 use Rattle.moves.proofs.StoredKey.{key-fits}
 use Rattle.moves.proofs.FastLaws.{fast-facts, next-place}
 use Rattle.walk.specs.Walk.{walkOk, numberOf, answerNumbers}
-use Rattle.scan.specs.Machine.{isEnded, ctxOf, walkOf, goneNumber, step}
+use Rattle.scan.specs.Machine.{isEnded, ctxOf, walkOf, step}
+use Rattle.scan.specs.CodeLoop.{goneNumber}
 use Rattle.walk.proofs.NumberLaws.{walk-fits}
 use Rattle.scan.proofs.BeginLaws.{in-range, step-advances}
 use Rattle.scan.proofs.StepLaws as step
 use Rattle.walk_record.specs.Record.{leafAt, positionAt, offsetAt, kindAt, boundLenAt, stateAt, stateOf, numbersOf, readWalk, isRecord}
 use Rattle.record_step.specs.CodeInPlace.{numbersOk, placeOf, keyNumbers}
-use Rattle.record_step.specs.Step.{StepMade}
+use Rattle.record_step.specs.CodeStep.{StepMade}
 use Rattle.walk_record.proofs.Told.{Lengths, record-told}
 use Rattle.walk_record.proofs.Inverse.{walk-inverse}
 use Rattle.record_step.proofs.Steps.{declined, taken}

@@ -3,7 +3,7 @@
 use Rattle.base.specs.Kit.{_≡_, refl, ap, subst, sym, Bool, true, false, not, List, ℕ, zero, suc, _+_, _<_, arith, eqb, length, length-set, take, eqb-true, eqb-false, not-false}
 use Rattle.base.proofs.Choice.{pick-ind}
 use Rattle.record_step.specs.Types.{RangeBound, ScanState, Up, ScanCtx, Outcome, Continue, Push, Emit, Exhausted, Fault, LayerContext, Walk, Answer, Key, Nothing, Declined, Stepped}
-use Rattle.moves.specs.Moves.{InRange}
+use Rattle.moves.specs.CodeMoves.{InRange}
 use Rattle.moves.proofs.Laws.{Between, Before, After, not-up, popped-in-range, entered-in-range, move-in-range}
 use Rattle.walk.specs.Walk.{walkOk}
 use Rattle.scan.specs.Machine.{Scan, Moved, pushing, movedBy, popped, unstacked, move, Ran, after, run, isEnded, scanOf, stepped, finished, advance, step}

@@ -5,7 +5,8 @@ use Rattle.walk.specs.Walk.{numberOf, answerNumbers}
 use Rattle.scan.specs.Machine.{step}
 use Rattle.record_step.specs.Types.{Walk, Stepped}
 use Rattle.walk_record.specs.Record.{isRecord, readWalk, numbersOf}
-use Rattle.record_step.specs.Step.{stepNumber, left, stepNumbers, stepBuf, stepOut, StepMade}
+use Rattle.record_step.specs.Step.{stepNumber, left, stepNumbers, stepBuf}
+use Rattle.record_step.specs.CodeStep.{stepOut, StepMade}
 
 module _ (n b k image out : List ℕ) where
   -- a number that is not 0 leaves everything

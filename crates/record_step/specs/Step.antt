@@ -26,15 +26,3 @@ stepNumbers numbers buf bound image out =
 unfoldable pub stepBuf : List ℕ → List ℕ → List ℕ → List ℕ → List ℕ → List ℕ
 stepBuf numbers buf bound image out =
     left (stepNumber numbers buf bound image out) (stepOf numbers buf bound image .walk .cursor .buf) buf
-
-unfoldable pub stepOut : List ℕ → List ℕ → List ℕ → List ℕ → List ℕ → List ℕ
-stepOut numbers buf bound image out =
-    let s = stepOf numbers buf bound image in
-    left (stepNumber numbers buf bound image out) (answerNumbers (s .answer) (s .moves)) out
-
--- All that a step of a record leaves: its number r, the numbers, the buffer and the answer.
-pub record StepMade (numbers buf bound image out : List ℕ) (r : ℕ) (numbers′ buf′ out′ : List ℕ) : Type 0 where
-  pub number : r ≡ stepNumber numbers buf bound image out
-  pub numbers-left : numbers′ ≡ stepNumbers numbers buf bound image out
-  pub buf-left : buf′ ≡ stepBuf numbers buf bound image out
-  pub out-left : out′ ≡ stepOut numbers buf bound image out

@@ -23,7 +23,7 @@ ghost use Rattle.walk.specs.Walk.{walkOk};
 ghost use Rattle.scan.specs.Machine.{step};
 ghost use Rattle.walk_record.specs.Record.{leafAt, positionAt, stateAt, isRecord};
 ghost use Rattle.record_step.specs.CodeInPlace.{numbersOk, placeOf};
-ghost use Rattle.record_step.specs.Step.{StepMade};
+ghost use Rattle.record_step.specs.CodeStep.{StepMade};
 
 // A step of a walk. `tested` tells that its first move has tested its leaf's version.
 fn step_of(walk: Walk, image: &[u8], tested: bool) -> Stepped

@@ -3,13 +3,12 @@
 // and the image, at most 65,536 bytes. What a program reads behind it, it reads by `field`.
 //
 // Interface: `read_request` and `field` read, and specs/Requests.antt has what holds of what they hand back, the input itself being free;
-// `first` cuts a buffer; `put`, `item`, `line`, `put_hex` and `put_pair` print and hand nothing back. None has a `requires`.
+// `put`, `item`, `line`, `put_hex` and `put_pair` print and hand nothing back. None has a `requires`.
+use key::first;
 use node::le;
+use sheet::LINE;
 ghost use Rattle.base.specs.Kit.{_≡_, true, _≤_, length, take};
 ghost use Rattle.requests.specs.Requests.{Within, Fits};
-
-// The longest line of a key: 256 bytes, a space, twenty digits and a newline.
-pub const LINE: usize = 534;
 
 // A number of the input, or its end.
 pub enum Read {
@@ -48,16 +47,6 @@ pub fn line(name: &[u8], word: &[u8], n: usize) {
     put(name);
     item(word, n as u64);
     put(b"\n");
-}
-
-// The first n bytes of a buffer.
-pub fn first<'a>(s: &'a [u8], n: usize) -> &'a [u8]
-    ensures { λ r. ⌜ now r ≡ take n (now (s .entry)) ⌝ }
-{
-    if s.len() < n {
-        return s;
-    }
-    key::part_of(s, 0, n)
 }
 
 // A key in hex, `-` for none, and its value: a sheet's line.

@@ -4,7 +4,7 @@
 // Interface: `run`, which has no `requires` and hands nothing back.
 use cursor::cursor_key::CursorKey;
 use cursor::range_bound::StartMode;
-use requests::first;
+use key::first;
 use requests::item;
 use requests::line;
 use requests::put;

@@ -4,7 +4,8 @@ use Rattle.base.specs.Pick.{pick}
 use Rattle.scan.specs.Types.{Slot, CursorPlace, ScanCtx, At, Out, NextKeyPast as PastBound, LayerContext, Slow, LeafEndPast as Past, LeafEndFault as Gone, Spent}
 use Rattle.cursor.specs.CursorKey.{withIkey, withLength}
 use Rattle.search.specs.Traversal.{leafThere}
-use Rattle.moves.specs.Moves.{onward, keyPlace, keyBuf, InRange}
+use Rattle.moves.specs.Moves.{onward, keyPlace, keyBuf}
+use Rattle.moves.specs.CodeMoves.{InRange}
 use Rattle.moves.specs.CodeFastPath.{fastSlot, nextKey}
 use Rattle.moves.proofs.StoredKey.{key-fits, key-buf-length}
 use Rattle.moves.proofs.FastLaws.{Fast, fast-facts, next-place}

@@ -3,7 +3,7 @@
 use Rattle.base.specs.Kit.{_≡_, true, false, List, ℕ, length}
 use Rattle.base.specs.Pick.{pick}
 use Rattle.scan.specs.Types.{ScanCtx, Walk, Nothing, Declined, StartMode, WalkState, WalkStateStart as Start, WalkStateRetry as Retry, WalkStateFindNext as FindNext, Ended}
-use Rattle.moves.specs.Moves.{InRange}
+use Rattle.moves.specs.CodeMoves.{InRange}
 use Rattle.moves.proofs.Laws.{Between}
 use Rattle.walk.specs.Walk.{walkOk}
 use Rattle.walk.proofs.NumberLaws.{walk-fits}

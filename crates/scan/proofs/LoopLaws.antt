@@ -4,7 +4,8 @@ use Rattle.base.specs.Kit.{_≡_, refl, sym, _∙_, ap, subst, Bool, true, fals
 use Rattle.base.proofs.Choice.{pick-on, pick-off}
 use Rattle.key.specs.Part.{part}
 use Rattle.search.specs.Traversal.{leafThere}
-use Rattle.moves.specs.Moves.{passIn, InRange}
+use Rattle.moves.specs.Moves.{passIn}
+use Rattle.moves.specs.CodeMoves.{InRange}
 use Rattle.scan.specs.Types.{ScanState, ScanStateStart as Start, ScanStateRetry as Retry, ScanStateFindNext as FindNext, Down, Up, ScanCtx, Outcome, Continue, Push, Emit, Exhausted, OutcomeFault as Fault, Pass, LayerContext, Walk, Answer, Key, Nothing, Declined, Along, Advanced}
 use Rattle.moves.proofs.Laws.{Between, Before, After, not-up, popped-in-range, entered-in-range, pass-in-range, buffer-in-range}
 use Rattle.walk.specs.Walk.{walkOk}

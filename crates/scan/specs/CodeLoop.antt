@@ -3,7 +3,7 @@
 use Rattle.base.specs.Kit.{Bool, true, false, not, _&&_, List, _≡_, ℕ, zero, suc, _+_, _-_, _≤_, _<_, eqb, length, take}
 use Rattle.base.specs.Pick.{pick}
 use Rattle.search.specs.Traversal.{leafThere}
-use Rattle.moves.specs.Moves.{InRange}
+use Rattle.moves.specs.CodeMoves.{InRange}
 use Rattle.scan.specs.Types.{ScanState, ScanStateStart as Start, ScanStateRetry as Retry, ScanStateFindNext as FindNext, Down, Up, ScanCtx, Outcome, Continue, Push, Emit, Exhausted, OutcomeFault as Fault, LayerContext, Walk, Answer, Key, Nothing, Declined, LeafEnd, Slow, LeafEndPast as Past, LeafEndFault as Gone, Spent, Along, Advanced}
 use Rattle.walk.specs.Walk.{walkOk}
 use Rattle.scan.specs.Machine.{Scan, move, Ran, isEnded, scanOf, finished}
@@ -104,3 +104,7 @@ pub record AlongFrom (image : List ℕ) (kind : ℕ) (bound buf : List ℕ) (c :
   pub grows : moves ≤ r .moves
   pub within : r .moves ≤ length image
   pub tested : isSlow (r .end) ≡ true → (r .moves < length image) × (leafThere image (r .ctx .leaf) ≡ true)
+
+-- What a step is declined with where its first move's leaf is not there: 22, and 23 where no move may be made.
+abbrev pub goneNumber : ℕ → ℕ
+goneNumber n = pick (eqb n 0) 23 22

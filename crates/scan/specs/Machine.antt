@@ -151,10 +151,6 @@ finished w r = stepped w (r .answer) (r .moves) (r .scan)
 unfoldable pub advance : Walk → List ℕ → Stepped
 advance w image = finished w (run image (w .bound .kind) (take (w .bound .len) (w .bound .key)) (length image) 0 (scanOf w))
 
--- What a step is declined with where its first move's leaf is not there: 22, and 23 where no move may be made.
-abbrev pub goneNumber : ℕ → ℕ
-goneNumber n = pick (eqb n 0) 23 22
-
 -- "An ended walk then answers none, zero moves."
 unfoldable pub step : Walk → List ℕ → Stepped
 step w image =

@@ -7,7 +7,7 @@ use moves::fast_path::FastSlot;
 use moves::fast_path::NextKey;
 use search::traversal;
 ghost use Rattle.base.specs.Kit.{_≡_, _≤_, length};
-ghost use Rattle.moves.specs.Moves.{InRange};
+ghost use Rattle.moves.specs.CodeMoves.{InRange};
 ghost use Rattle.scan.specs.CodeLoop.{isNext, isAlong, alongWith, AfterKey, AlongFrom};
 
 // How the moves along a leaf end: with one that the fast path does not make, and it has tested the leaf; with the bound; with 22; with no

@@ -7,6 +7,9 @@ ghost use Rattle.base.specs.Kit.{[], _∷_, _++_, _≡_, _+_, _*_, _≤_, _<_, 
 ghost use Rattle.sheet.specs.Sheet.{decimal, hexDigit, hexBytes, hexKey, firstLine, pairLine, lastLine, refused};
 ghost use Rattle.sheet.specs.Written.{writtenLen, writtenOut};
 
+// The longest line of a sheet: a key of 256 bytes in hex, a space, twenty digits and a newline.
+pub const LINE: usize = 534;
+
 // The first line: the edition and the trailer's key count.
 pub fn first_line(out: &mut [u8], count: u64) -> usize
     ensures { λ r.

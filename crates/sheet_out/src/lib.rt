@@ -2,7 +2,7 @@
 //
 // Interface: `put_sheet`, of an image, and `run`, of the one on standard input. Neither has a `requires` or hands anything back; where the
 // output fails they end.
-use requests::first;
+use key::first;
 
 // Writes the first n bytes of a line; false where the output fails.
 fn put(line: &[u8], n: usize) -> bool {
@@ -29,7 +29,7 @@ pub fn put_sheet(image: &[u8]) {
 
 // The only line of what is declined without being read whole.
 fn put_refused(number: u8) {
-    let mut line = [0u8; listed::LINE];
+    let mut line = [0u8; sheet::LINE];
     let n = sheet::refused_line(&mut line, number as u64);
     put(&line, n);
 }

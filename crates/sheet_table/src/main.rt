@@ -1,5 +1,5 @@
 // The sheets of named images (tools/examples.py): for each request of the input a line with its name, and the image's whole sheet.
-use requests::first;
+use key::first;
 use requests::put;
 
 // The requests: more than there are.

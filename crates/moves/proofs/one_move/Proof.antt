@@ -1,7 +1,8 @@
 -- Each state has its arm.
 use Rattle.base.specs.Kit.{refl, needs}
 use Rattle.moves.specs.Types.{Start, Retry, FindNext, Down, Up}
-use Rattle.moves.specs.Moves.{kept, passIn, InBuffer}
+use Rattle.moves.specs.Moves.{kept, passIn}
+use Rattle.moves.specs.CodeMoves.{InBuffer}
 use Rattle.moves.proofs.Answers.{in-state, asked-in}
 use Rattle.moves.proofs.one_move.Statement.{statement}
 use Rattle.moves.proofs.one_move.Tie as tie

@@ -3,7 +3,7 @@ use Rattle.base.specs.Kit.{_+_, _≤_, _≡_, sym, _∙_, subst, true, arith, n
 use Rattle.base.proofs.Choice.{found-so, found-not}
 use Rattle.scan.specs.Types.{ScanCtx, At}
 use Rattle.search.specs.Traversal.{leafThere}
-use Rattle.moves.specs.Moves.{InRange}
+use Rattle.moves.specs.CodeMoves.{InRange}
 use Rattle.moves.specs.CodeFastPath.{fastSlot}
 use Rattle.moves.proofs.Answers.{there-in}
 use Rattle.moves.proofs.StoredKey.{key-fits}

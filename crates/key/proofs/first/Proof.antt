@@ -1,8 +1,8 @@
 -- A buffer with no more bytes than asked for is its own first n; any other is cut.
 use Rattle.base.specs.Kit.{sym, arith, needs, take-all}
 use Rattle.key.specs.Part.{part}
-use Rattle.requests.proofs.first.Statement.{statement}
-use Rattle.requests.proofs.first.Tie as tie
+use Rattle.key.proofs.first.Statement.{statement}
+use Rattle.key.proofs.first.Tie as tie
 
 pub first-spec : {M : Type 1} → statement M
 unfolding part
