@@ -18,8 +18,7 @@ ghost use Rattle.search.specs.Traversal.{leafThere};
 ghost use Rattle.scan.specs.Types.{WalkStateFindNext as FindNext, Key};
 ghost use Rattle.walk.specs.Walk.{emptyContext, walkOk};
 ghost use Rattle.scan.specs.Machine.{isUp, layerOf, stepped, advance};
-ghost use Rattle.scan.specs.CodeLoop.{goneNumber};
-ghost use Rattle.scan.specs.CodeLoop.{isSlow, leftAnswer, advanceBy, advancedOf, keysAhead};
+ghost use Rattle.scan.specs.CodeLoop.{goneNumber, isSlow, leftAnswer, advanceBy, advancedOf, keysAhead};
 
 // What the loop comes to: how many keys were out, and the step that its moves make.
 pub struct Advanced {
