@@ -1,6 +1,6 @@
 -- One move in each state, over any bytes and any walk record (01, "Modules", the list Start, Retry, FindNext, Down, Up; the
 -- Rust's forward_ctx.rs). A move takes what goes by value, `c`, and the buffer; the loop holds the stack.
-use Rattle.base.specs.Kit.{Bool, true, false, not, _&&_, _||_, List, _≡_, ℕ, _+_, _*_, _≤_, leb, ltb, eqb, take}
+use Rattle.base.specs.Kit.{Bool, true, false, not, _&&_, _||_, List, ℕ, _+_, leb, ltb, eqb, take}
 use Rattle.base.specs.Pick.{pick}
 use Rattle.node.specs.Permuter.{sizeOf}
 use Rattle.node.specs.Layout.{permutationAt, ikeyAt, keylenxAt, valueAt, liveAt, suffixAt, nextAt}

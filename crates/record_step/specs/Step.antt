@@ -1,7 +1,7 @@
 -- What a step of a walk's record returns, and what it leaves in each slice that is lent to it.
-use Rattle.base.specs.Kit.{List, _≡_, ℕ, eqb, length}
+use Rattle.base.specs.Kit.{List, ℕ, eqb, length}
 use Rattle.base.specs.Pick.{pick}
-use Rattle.walk.specs.Walk.{numberOf, answerNumbers}
+use Rattle.walk.specs.Walk.{numberOf}
 use Rattle.scan.specs.Machine.{step}
 use Rattle.walk_record.specs.Record.{numbersOf, readWalk, isRecord}
 use Rattle.record_step.specs.Types.{Stepped}

@@ -7,7 +7,7 @@
 use key::first;
 use node::le;
 use sheet::LINE;
-ghost use Rattle.base.specs.Kit.{_≡_, true, _≤_, length, take};
+ghost use Rattle.base.specs.Kit.{_≡_, true, _≤_, length};
 ghost use Rattle.requests.specs.Requests.{Within, Fits};
 
 // A number of the input, or its end.
