@@ -19,15 +19,15 @@ use Rattle.scan.specs.CodeLoop.{goneNumber}
 use Rattle.walk.proofs.NumberLaws.{walk-fits}
 use Rattle.scan.proofs.BeginLaws.{in-range, step-advances}
 use Rattle.scan.proofs.StepLaws as step
-use Rattle.walk_record.specs.Record.{leafAt, positionAt, offsetAt, kindAt, boundLenAt, stateAt, stateOf, numbersOf, readWalk, isRecord}
+use Rattle.walk_record.specs.Record.{leafAt, positionAt, offsetAt, kindAt, boundLenAt, stateAt, stateNumber, stateOf, numbersOf, readWalk, isRecord}
 use Rattle.record_step.specs.CodeInPlace.{numbersOk, placeOf, keyNumbers}
 use Rattle.record_step.specs.CodeStep.{StepMade}
 use Rattle.walk_record.proofs.Told.{Lengths, record-told}
 use Rattle.walk_record.proofs.Inverse.{walk-inverse}
 use Rattle.record_step.proofs.Steps.{declined, taken}
 
-state-next : (n : ℕ) → n ≡ 2 → stateOf n ≡ FindNext
-unfolding stateOf pick
+state-next : (n : ℕ) → n ≡ stateNumber FindNext → stateOf n ≡ FindNext
+unfolding stateNumber stateOf pick
 state-next n e = rw e
 
 gone-not-zero : (n : ℕ) → goneNumber n ≡ 0 → ⊥
@@ -50,7 +50,7 @@ pub record Steppable (n b k image : List ℕ) (slot : Slot) : Type 0 where
   pub bound-fits : getD n boundLenAt 0 ≤ 256
 
 -- A RECORD WHOSE WALK HAS HANDED OUT A KEY, and whose numbers are in range.
-module _ (n b k image : List ℕ) (is : isRecord n b k ≡ true) (ok : numbersOk n (length image) ≡ true) (next : getD n stateAt 0 ≡ 2) where
+module _ (n b k image : List ℕ) (is : isRecord n b k ≡ true) (ok : numbersOk n (length image) ≡ true) (next : getD n stateAt 0 ≡ stateNumber FindNext) where
   abbrev w : Walk
   w = readWalk n b k
 
@@ -124,7 +124,7 @@ module _ (n b k image : List ℕ) (is : isRecord n b k ≡ true) (ok : numbersOk
 
 -- a record that was tested: its walk was
 pub read-tested : (n b k image : List ℕ) → isRecord n b k ≡ true → (w : Walk) → w ≡ readWalk n b k
-    → (numbersOk n (length image) ≡ true) × (getD n stateAt 0 ≡ 2) × (leafThere image (getD n leafAt 0) ≡ true)
+    → (numbersOk n (length image) ≡ true) × (getD n stateAt 0 ≡ stateNumber FindNext) × (leafThere image (getD n leafAt 0) ≡ true)
     → (walkOk w (length image) ≡ true) × (w .state ≡ FindNext) × (leafThere image (w .leaf) ≡ true)
 unfolding readWalk
 read-tested n b k image is w e h = rw e (walk-ok n b k image is (h .0) (h .1), walk-next n b k image is (h .0) (h .1), h .2)

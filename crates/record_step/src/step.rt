@@ -21,7 +21,7 @@ ghost use Rattle.moves.specs.CodeFastPath.{fastSlot};
 ghost use Rattle.record_step.specs.Types.{At, FindNext};
 ghost use Rattle.walk.specs.Walk.{walkOk};
 ghost use Rattle.scan.specs.Machine.{step};
-ghost use Rattle.walk_record.specs.Record.{leafAt, positionAt, stateAt, isRecord};
+ghost use Rattle.walk_record.specs.Record.{leafAt, positionAt, stateAt, stateNumber, isRecord};
 ghost use Rattle.record_step.specs.CodeInPlace.{numbersOk, placeOf};
 ghost use Rattle.record_step.specs.CodeStep.{StepMade};
 
@@ -47,7 +47,7 @@ fn step_walk(
 ) -> u8
     requires { ⌜ length (now out) ≡ 4 ⌝ }
     requires { ⌜ isRecord (now numbers) (now buf) (now bound) ≡ true ⌝ }
-    requires { ⌜ (tested ≡ true → (numbersOk (now numbers) (length (now image)) ≡ true) × (getD (now numbers) stateAt 0 ≡ 2) × (leafThere (now image) (getD (now numbers) leafAt 0) ≡ true)) ⌝ }
+    requires { ⌜ (tested ≡ true → (numbersOk (now numbers) (length (now image)) ≡ true) × (getD (now numbers) stateAt 0 ≡ stateNumber FindNext) × (leafThere (now image) (getD (now numbers) leafAt 0) ≡ true)) ⌝ }
     ensures { λ r. ⌜ StepMade (now (numbers .entry)) (now (buf .entry)) (now (bound .entry)) (now (image .entry)) (now (out .entry)) r (now (numbers .exit)) (now (buf .exit)) (now (out .exit)) ⌝ }
 {
     let s = step_of(record::read_walk(numbers, buf, bound), image, tested);
@@ -74,7 +74,7 @@ fn step_fast(
     requires { ⌜ length (now out) ≡ 4 ⌝ }
     requires { ⌜ isRecord (now numbers) (now buf) (now bound) ≡ true ⌝ }
     requires { ⌜ numbersOk (now numbers) (length (now image)) ≡ true ⌝ }
-    requires { ⌜ getD (now numbers) stateAt 0 ≡ 2 ⌝ }
+    requires { ⌜ getD (now numbers) stateAt 0 ≡ stateNumber FindNext ⌝ }
     requires { ⌜ leafThere (now image) (getD (now numbers) leafAt 0) ≡ true ⌝ }
     requires { ⌜ fastSlot (now image) (getD (now numbers) leafAt 0) (record { 0 = getD (now numbers) positionAt 0 }) (placeOf (now numbers)) ≡ At slot ⌝ }
     ensures { λ r. ⌜ StepMade (now (numbers .entry)) (now (buf .entry)) (now (bound .entry)) (now (image .entry)) (now (out .entry)) r (now (numbers .exit)) (now (buf .exit)) (now (out .exit)) ⌝ }
@@ -106,7 +106,7 @@ fn step_next(numbers: &mut [u64], buf: &mut [u8], bound: &[u8], image: &[u8], ou
     requires { ⌜ length (now out) ≡ 4 ⌝ }
     requires { ⌜ isRecord (now numbers) (now buf) (now bound) ≡ true ⌝ }
     requires { ⌜ numbersOk (now numbers) (length (now image)) ≡ true ⌝ }
-    requires { ⌜ getD (now numbers) stateAt 0 ≡ 2 ⌝ }
+    requires { ⌜ getD (now numbers) stateAt 0 ≡ stateNumber FindNext ⌝ }
     ensures { λ r. ⌜ StepMade (now (numbers .entry)) (now (buf .entry)) (now (bound .entry)) (now (image .entry)) (now (out .entry)) r (now (numbers .exit)) (now (buf .exit)) (now (out .exit)) ⌝ }
 {
     if !traversal::is_leaf_there(image, numbers[layout::LEAF]) {
@@ -134,7 +134,7 @@ pub fn step_record(
     requires { ⌜ isRecord (now numbers) (now buf) (now bound) ≡ true ⌝ }
     ensures { λ r. ⌜ StepMade (now (numbers .entry)) (now (buf .entry)) (now (bound .entry)) (now (image .entry)) (now (out .entry)) r (now (numbers .exit)) (now (buf .exit)) (now (out .exit)) ⌝ }
 {
-    if numbers[layout::STATE] == 2 {
+    if numbers[layout::STATE] == record::state_number(WalkState::FindNext) {
         if in_place::is_numbers_ok(numbers, image.len()) {
             return step_next(numbers, buf, bound, image, out);
         }

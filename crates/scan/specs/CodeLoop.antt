@@ -4,9 +4,14 @@ use Rattle.base.specs.Kit.{Bool, true, false, not, _&&_, List, _≡_, ℕ, zero
 use Rattle.base.specs.Pick.{pick}
 use Rattle.search.specs.Traversal.{leafThere}
 use Rattle.moves.specs.CodeMoves.{InRange}
-use Rattle.scan.specs.Types.{ScanState, ScanStateStart as Start, ScanStateRetry as Retry, ScanStateFindNext as FindNext, Down, Up, ScanCtx, Outcome, Continue, Push, Emit, Exhausted, OutcomeFault as Fault, LayerContext, Walk, Answer, Key, Nothing, Declined, LeafEnd, Slow, LeafEndPast as Past, LeafEndFault as Gone, Spent, Along, Advanced}
+use Rattle.scan.specs.Types.{ScanState, ScanStateStart as Start, ScanStateRetry as Retry, ScanStateFindNext as FindNext, Down, Up, ScanCtx, Outcome, Continue, Push, Emit, Exhausted, OutcomeFault as Fault, LayerContext, WalkStateFindNext as Next, Walk, Answer, Key, Nothing, Declined, LeafEnd, Slow, LeafEndPast as Past, LeafEndFault as Gone, Spent, Along, Advanced}
 use Rattle.walk.specs.Walk.{walkOk}
 use Rattle.scan.specs.Machine.{Scan, move, Ran, isEnded, scanOf, finished}
+
+-- What the loop asks of its walk: its numbers are in range; and where `tested` tells that the first move has tested its leaf's version, that
+-- move is a FindNext, and the leaf is there.
+abbrev pub Begun : Walk → List ℕ → Bool → Type 0
+Begun w image tested = (walkOk w (length image) ≡ true) × (tested ≡ true → (w .state ≡ Next) × (leafThere image (w .leaf) ≡ true))
 
 -- THE LOOP ITSELF, which goes to the next key (a step), or past every key (`whole`: a count). How many keys are out after a move, n
 -- before it.

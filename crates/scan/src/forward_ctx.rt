@@ -14,11 +14,10 @@ use walk::scan_state::Stepped;
 use walk::scan_state::Walk;
 use walk::scan_state::WalkState;
 ghost use Rattle.base.specs.Kit.{_≡_, true, _+_, _≤_, length};
-ghost use Rattle.search.specs.Traversal.{leafThere};
-ghost use Rattle.scan.specs.Types.{WalkStateFindNext as FindNext, Key};
+ghost use Rattle.scan.specs.Types.{Key};
 ghost use Rattle.walk.specs.Walk.{emptyContext, walkOk};
 ghost use Rattle.scan.specs.Machine.{isUp, layerOf, stepped, advance};
-ghost use Rattle.scan.specs.CodeLoop.{goneNumber, isSlow, leftAnswer, advanceBy, advancedOf, keysAhead};
+ghost use Rattle.scan.specs.CodeLoop.{Begun, goneNumber, isSlow, leftAnswer, advanceBy, advancedOf, keysAhead};
 
 // What the loop comes to: how many keys were out, and the step that its moves make.
 pub struct Advanced {
@@ -153,11 +152,10 @@ fn left_answer(a: Along) -> Answer
     }
 }
 
-// Moves until the next key is out, or where the whole walk is asked for past every key, to the end, 22 or 23. `begun` tells that the
+// Moves until the next key is out, or where the whole walk is asked for past every key, to the end, 22 or 23. `tested` tells that the
 // first move has tested its leaf's version.
-fn advance_by(walk: Walk, image: &[u8], whole: bool, begun: bool) -> Advanced
-    requires { ⌜ walkOk walk (length (now image)) ≡ true ⌝ }
-    requires { ⌜ (begun ≡ true → (walk .state ≡ FindNext) × (leafThere (now image) (walk .leaf) ≡ true)) ⌝ }
+fn advance_by(walk: Walk, image: &[u8], whole: bool, mut tested: bool) -> Advanced
+    requires { ⌜ Begun walk (now image) tested ⌝ }
     ensures { λ r. ⌜ r ≡ advanceBy whole walk (now (image .entry)) ⌝ }
 {
     let bound = walk.bound;
@@ -168,7 +166,6 @@ fn advance_by(walk: Walk, image: &[u8], whole: bool, begun: bool) -> Advanced
     let mut c = scan_ctx::ctx_of(walk);
     let mut moves = 0;
     let mut keys = 0;
-    let mut tested = begun;
     while moves < image.len() {
         if along_leaf::is_along(c, whole) {
             let a = along_leaf::along_leaf(image, kind, end, &mut buf, c, keys, moves);
@@ -219,12 +216,11 @@ fn advance_by(walk: Walk, image: &[u8], whole: bool, begun: bool) -> Advanced
 }
 
 // Moves until a key is out, the end, 22 or 23.
-pub fn advance_no_alloc(walk: Walk, image: &[u8], begun: bool) -> Stepped
-    requires { ⌜ walkOk walk (length (now image)) ≡ true ⌝ }
-    requires { ⌜ (begun ≡ true → (walk .state ≡ FindNext) × (leafThere (now image) (walk .leaf) ≡ true)) ⌝ }
+pub fn advance_no_alloc(walk: Walk, image: &[u8], tested: bool) -> Stepped
+    requires { ⌜ Begun walk (now image) tested ⌝ }
     ensures { λ r. ⌜ r ≡ advance walk (now (image .entry)) ⌝ }
 {
-    let a = advance_by(walk, image, false, begun);
+    let a = advance_by(walk, image, false, tested);
     a.stepped
 }
 

@@ -6,13 +6,14 @@
 -- `open` and `next_line` (listed/src/lib.rt), and the five of punchbronze/src/lib.rt. None of them has a `requires`.
 use Rattle.base.specs.Kit.{_≡_, true, not, map, List, ℕ, _≤_, _<_, eqb, length, getD}
 use Rattle.base.specs.Pick.{pick}
+use Rattle.cursor.specs.RangeBound.{contains}
 use Rattle.cursor.specs.declared.range_bound.StartMode.{StartMode}
 use Rattle.cursor.specs.declared.range_bound.StartMode.the-variants.{Above}
 use Rattle.layering.specs.Tree.{treeOf}
 use Rattle.layering.specs.Keys.{Pair, livePairs}
 use Rattle.layering.specs.Ascending.{All, Ascending}
 use Rattle.layering.specs.Accepted.{Obeys}
-use Rattle.layering.specs.Sieve.{rowOf}
+use Rattle.layering.specs.Sieve.{past, rowOf}
 use Rattle.verify.specs.Check.{checkNumber, checkCounts, check}
 use Rattle.verify.specs.Acceptance.{treeCounts}
 use Rattle.walk.specs.Placing.{placeFault, place}
@@ -22,7 +23,7 @@ use Rattle.survey.specs.Tally.{tallyNumber, tallyCount, tally}
 use Rattle.listed.specs.Listed.{AllLines}
 use Rattle.worked_examples.specs.Examples.{machineSays, paperSays, table}
 use Rattle.walk_record.specs.Record.{numbersOf, readWalk, isRecord}
-use Rattle.punchbronze.specs.Interface.{PutPlaced}
+use Rattle.punchbronze.specs.Interface.{fitting, placedNumber, PutPlaced}
 use Rattle.c_demands.specs.CDemand.{CCall, CLent, CDemand3}
 use Rattle.scan.proofs.ByRule01.{ByRule01}
 use Rattle.verify.proofs.Theorem as verify
@@ -70,7 +71,13 @@ pub is-taken : (image : List ℕ) → checkNumber (check image) ≡ 0 → (mode 
     → length cursor ≤ 256 → kind ≤ 2 → length bound ≤ 256 → place image mode cursor kind bound .code ≡ 0
 is-taken = demands.is-taken
 
--- Two images with the same live pairs have the same row, whatever their shape.
+-- The row: its keys lie past the start, and the bound admits them. Two images with the same live pairs have the same row, whatever their
+-- shape.
+pub row-admitted : (image : List ℕ) (mode : StartMode) (cursor : List ℕ) (kind : ℕ) (bound : List ℕ)
+    → All (λ (x : Pair). past mode cursor (x .key) ≡ true) (rowOf image mode cursor kind bound)
+    × All (λ (x : Pair). contains kind bound (x .key) ≡ true) (rowOf image mode cursor kind bound)
+row-admitted = asked.row-admitted
+
 pub same-row : (image other : List ℕ) → livePairs image ≡ livePairs other → (mode : StartMode) (cursor : List ℕ) (kind : ℕ) (bound : List ℕ)
     → rowOf image mode cursor kind bound ≡ rowOf other mode cursor kind bound
 same-row = asked.same-row
@@ -109,3 +116,9 @@ pub c-demand-3 : (image : List ℕ) → Bytes image → checkNumber (check image
     → PutPlaced (place image mode cursor kind key) numbers buf bound 0 numbers′ buf′ bound′
     → (calls : List CCall) → CLent image calls → CDemand3 image mode cursor kind key numbers′ buf′ bound′ calls
 c-demand-3 = c.c-demand-3
+
+-- The placings that are taken, into a record of a record's lengths.
+pub is-placed : (image : List ℕ) → checkNumber (check image) ≡ 0 → (mode : StartMode) (cursor : List ℕ) (kind : ℕ) (key numbers buf bound : List ℕ)
+    → fitting numbers buf bound ≡ true → length cursor ≤ 256 → kind ≤ 2 → length key ≤ 256
+    → placedNumber (place image mode cursor kind key) numbers buf bound ≡ 0
+is-placed = c.is-placed

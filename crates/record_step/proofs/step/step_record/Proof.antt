@@ -9,16 +9,17 @@ step-record-spec =
     tie.close
     (tie.spec
     (λ c. let t = record-told _ _ _ (c .before .before .before .before .before .before .pre .1) in search (needs, t .lengths .numbers-is))
-    (λ c κs. record-told _ _ _ (c .before .before .before .before .before .before .before .before .pre .1) .lengths .numbers-is)
+    (λ c κs. search needs)
+    (λ c κs. record-told _ _ _ (c .before .before .before .before .before .before .before .before .before .pre .1) .lengths .numbers-is)
     (λ c κs.
     let test = c .before .before .before in
     let state = test .before .before .before in
-    let pre = state .before .before .before .before .before .before .before .pre in (pre .0, (pre .1, (sym (test .before .is-numbers-ok .ensures) ∙ test .if2 .taken, state .if1 .taken))))
+    let pre = state .before .before .before .before .before .before .before .before .pre in (pre .0, (pre .1, (sym (test .before .is-numbers-ok .ensures) ∙ test .if2 .taken, state .if1 .taken ∙ state .before .state-number .ensures))))
     (λ c. search needs)
     (λ c. search needs)
     (λ c. search needs)
     (λ c. c .before .before .before .before .before .before .step-next .ensures)
-    (λ c κs. let pre = c .before .before .before .before .before .before .before .before .before .before .pre in (pre .0, (pre .1, λ e. absurd (false≢true e))))
+    (λ c κs. let pre = c .before .before .before .before .before .before .before .before .before .before .before .pre in (pre .0, (pre .1, λ e. absurd (false≢true e))))
     (λ c. search needs)
     (λ c. search needs)
     (λ c. search needs)
