@@ -21,40 +21,51 @@ from requests import ABOVE, CHECK, EXCLUDED, FOREIGN, FROM, INCLUDED, LENT, MOVE
 def surveyed():
     """P1 to P12."""
     a, b = build(tree_a()), build(tree_b())
-    request("P1", a, form=MOVES)
+    request("P1", a, ABOVE, form=MOVES)
     request("P2", a, FROM, form=MOVES)
-    request("P3", a, cursor=b"a")
-    request("P4", a, cursor=b"ab")
+    request("P3", a, ABOVE, b"a")
+    request("P4", a, ABOVE, b"ab")
     request("P5", b, FROM, form=MOVES)
-    request("P6", b, cursor=b"entrance")
+    request("P6", b, ABOVE, b"entrance")
     request("P7", b, FROM, kind=INCLUDED, bound=b"entrance.1")
     request("P8", b, FROM, kind=EXCLUDED, bound=b"entrance.1")
-    request("P9", build(Leaf(Slot(b"a", 1), Slot(b"a\0", 2))), cursor=b"a")
+    request("P9", build(Leaf(Slot(b"a", 1), Slot(b"a\0", 2))), ABOVE, b"a")
     request("P10", build(Leaf(Slot(b"a", 1, live=False), Slot(b"b", 2))), FROM)
-    request("P11", build(Leaf()), form=MOVES)
-    request("P12", a, cursor=b"a" * 257)
+    request("P11", build(Leaf()), ABOVE, form=MOVES)
+    request("P12", a, ABOVE, b"a" * 257)
 
 
 def placing():
-    """The numbers of a placing, and which is tried first. "A short form has no start mode and means above": it answers as P1."""
+    """The numbers of a placing, and which is tried first."""
     a = build(tree_a())
-    request("short-form", a, SHORT, form=MOVES)
-    request("bound-of-256", a, kind=INCLUDED, bound=b"\xff" * 256)
-    request("bound-of-257", a, kind=INCLUDED, bound=b"\xff" * 257)
-    request("unbounded-of-256", a, bound=bytes(256))
-    request("unbounded-of-257", a, bound=bytes(257))
-    request("cursor-of-8", a, cursor=b"a" * 8)
-    request("kind-3", a, kind=3)
-    request("no-bytes", b"")
-    request("length-432", a[:432])
-    request("length-444", a + bytes(4))
-    request("stated-length-differs", trailer(a, LENGTH, 448))
-    request("edition-2", trailer(a, EDITION, 2))
+    request("bound-of-256", a, ABOVE, kind=INCLUDED, bound=b"\xff" * 256)
+    request("bound-of-257", a, ABOVE, kind=INCLUDED, bound=b"\xff" * 257)
+    request("unbounded-of-256", a, ABOVE, bound=bytes(256))
+    request("unbounded-of-257", a, ABOVE, bound=bytes(257))
+    request("cursor-of-8", a, ABOVE, b"a" * 8)
+    request("kind-3", a, ABOVE, kind=3)
+    request("no-bytes", b"", ABOVE)
+    request("length-432", a[:432], ABOVE)
+    request("length-444", a + bytes(4), ABOVE)
+    request("stated-length-differs", trailer(a, LENGTH, 448), ABOVE)
+    request("edition-2", trailer(a, EDITION, 2), ABOVE)
     faults = {"cursor": b"a" * 257, "kind": 3, "bound": bytes(257)}
-    request("1-before-11", a[:432], **faults)
-    request("2-before-11", trailer(a, EDITION, 2), **faults)
-    request("11-before-12", a, **faults)
-    request("12-before-13", a, kind=3, bound=bytes(257))
+    request("1-before-11", a[:432], ABOVE, **faults)
+    request("2-before-11", trailer(a, EDITION, 2), ABOVE, **faults)
+    request("11-before-12", a, ABOVE, **faults)
+    request("12-before-13", a, ABOVE, kind=3, bound=bytes(257))
+
+
+def short_form():
+    """02 [6], "From now on it means from": over tree A the short form answers as P2; a key that equals the cursor is handed out, of up to
+    eight bytes and past them; and its numbers are a placing's."""
+    a, b = build(tree_a()), build(tree_b())
+    request("short-form", a, SHORT, form=MOVES)
+    request("short-form-a", a, SHORT, b"a")
+    request("short-form-1", b, SHORT, b"entrance.1", kind=INCLUDED, bound=b"entrance.1")
+    request("short-form-11", a, SHORT, b"a" * 257, kind=3, bound=bytes(257))
+    request("short-form-12", a, SHORT, kind=3, bound=bytes(257))
+    request("short-form-13", a, SHORT, bound=bytes(257))
 
 
 def stepping():
@@ -69,10 +80,10 @@ def stepping():
     request("root-no-multiple-of-8", trailer(a, ROOT, 12), FROM)
     request("version-bit-29", changed(tree_a(), "<I", in_leaf(0), 1 << 31 | 1 << 29), FROM)
     request("slot-15", changed(tree_a(), "<Q", in_leaf(8), IDENTITY + 3 | 0xF << 4), FROM)
-    request("keylenx-9", changed(tree_a(), "<B", in_leaf(136 + 2), 9))
+    request("keylenx-9", changed(tree_a(), "<B", in_leaf(136 + 2), 9), ABOVE)
     request("next-names-internode", changed(two_leaves(), "<Q", lambda t: t.children[0].at + 392, 808), FROM)
     request("child-not-below", changed(two_leaves(), "<Q", in_leaf(128 + 8), 808), FROM, b"z")
-    request("next-is-itself", changed(Leaf(), "<Q", in_leaf(392), 8))
+    request("next-is-itself", changed(Leaf(), "<Q", in_leaf(392), 8), ABOVE)
 
 
 # The numbers of a record that are altered below, by their index.
@@ -202,18 +213,19 @@ def sheets():
     """Images whose sheets are printed: A, B with its layer, dead slots, several leaves, no keys, the longest line, and two that are
     declined."""
     for name in ("a", "b", "dead"):
-        request(name, SAMPLES[name]())
-    request("nested", build(nested()))
-    request("no-keys", build(Leaf()))
-    request("longest-line", build(Leaf(Slot(K8, 2**64 - 1, suffix=b"k" * 248))))
-    request("damaged", SAMPLES["damaged"]())
-    request("no-bytes", b"")
+        request(name, SAMPLES[name](), FROM)
+    request("nested", build(nested()), FROM)
+    request("no-keys", build(Leaf()), FROM)
+    request("longest-line", build(Leaf(Slot(K8, 2**64 - 1, suffix=b"k" * 248))), FROM)
+    request("damaged", SAMPLES["damaged"](), FROM)
+    request("no-bytes", b"", FROM)
 
 
 def main():
     if sys.argv[1:] == []:
         surveyed()
         placing()
+        short_form()
         stepping()
         whole()
     elif sys.argv[1:] == ["records"]:

@@ -11,7 +11,7 @@ import struct
 import sys
 
 from layout import TOP, Internode, Leaf, Slot, build, ikey, tree_of
-from requests import CHECK, request
+from requests import ABOVE, CHECK, request
 
 
 # ---- trees in order
@@ -207,7 +207,7 @@ SAMPLES = {
 def main():
     if sys.argv[1:] == ["table"]:
         for name, image in table():
-            request(name, image, form=CHECK)
+            request(name, image, ABOVE, form=CHECK)
     elif sys.argv[1:] == ["sample", "list"]:
         print("\n".join(SAMPLES))
     elif len(sys.argv) == 3 and sys.argv[1] == "sample" and sys.argv[2] in SAMPLES:

@@ -4,13 +4,13 @@ import sys
 
 # Forms: every answer; all moves too; before each step one over a shorter image; the check first, and only the number of keys; the
 # check alone; every step with the walk after it (for tests/differential); all moves too, by the lent form of the step. Then start
-# modes and kinds of bound.
+# modes, which every request names (SHORT is the form without one), and kinds of bound.
 KEYS, MOVES, FOREIGN, TOTAL, CHECK, STATES, LENT = range(7)
 ABOVE, FROM, SHORT = range(3)
 UNBOUNDED, INCLUDED, EXCLUDED = range(3)
 
 
-def encode(name, image, mode=ABOVE, cursor=b"", kind=UNBOUNDED, bound=b"", form=KEYS, changes=None):
+def encode(name, image, mode, cursor=b"", kind=UNBOUNDED, bound=b"", form=KEYS, changes=None):
     """A request's bytes. `changes` (for crates/records alone) gives numbers of the record by their index, and bytes of its buffer by
     256 plus theirs."""
     out = bytes([len(name)]) + name.encode() + bytes([form, mode, kind]) + struct.pack("<H", len(cursor)) + cursor

@@ -1,6 +1,6 @@
 -- What demand 3 speaks of: a list of steps, what they say, and the row that they hand out (01: "Demand 3 is one claim about its
 -- whole list, not one for each step").
-use Rattle.base.specs.Kit.{Bool, true, false, not, List, [], _∷_, _⊎_, _≡_, ℕ, _+_, _*_, _≤_, eqb, length, take}
+use Rattle.base.specs.Kit.{Bool, true, false, not, List, [], _∷_, _⊎_, _≡_, ℕ, _+_, _*_, _≤_, eqb, length, take, replicate}
 use Rattle.base.specs.Pick.{pick}
 use Rattle.layering.specs.Keys.{Pair}
 use Rattle.layering.specs.Ascending.{Ascending}
@@ -8,7 +8,7 @@ use Rattle.layering.specs.Sieve.{rowOf}
 use Rattle.verify.specs.Check.{checkCounts, check}
 use Rattle.walk.specs.Walk.{numberOf, keysOf, lenOf, valueOf}
 use Rattle.walk.specs.Placing.{place}
-use Rattle.lent.specs.Form.{Form, stepAs}
+use Rattle.lent.specs.Form.{Form, byValue, stepAs}
 use Rattle.demands.specs.Types.{StartMode, Walk, Stepped}
 
 -- A CALL of the step: its form, by value or with the walk lent, and the bytes that it is lent for the image.
@@ -20,6 +20,10 @@ pub record Call : Type 0 where
 unfoldable pub steps : Walk → List Call → List Stepped
 steps w [] = []
 steps w (c ∷ rest) = stepAs (c .form) w (c .bytes) ∷ steps (stepAs (c .form) w (c .bytes) .walk) rest
+
+-- So many of them over one image, by value.
+unfoldable pub callsOf : List ℕ → ℕ → List Call
+callsOf image n = replicate n (record { form = byValue; bytes = image })
 
 -- Each is lent the image that the walk was placed over, or bytes of another length.
 unfoldable pub Lent : List ℕ → List Call → Type 0

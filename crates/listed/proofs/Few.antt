@@ -1,56 +1,15 @@
 -- A sheet has no more lines than its image has bytes, and two.
-use Rattle.base.specs.Kit.{Bool, List, [], _∷_, _++_, ℕ, _+_, _≤_, arith, eqb, length, length-append, eqb-true}
+use Rattle.base.specs.Kit.{List, [], ℕ, _+_, _≤_, arith, eqb, length, eqb-true}
 use Rattle.base.proofs.Choice.{pick-ind}
-use Rattle.key.specs.Ikey.{ikeyBytes}
-use Rattle.layering.specs.Tree.{Node, leaf, internode, beyond, Kids, last, more, Slots, none, value, layer, treeOf}
-use Rattle.layering.specs.Keys.{Pair, pairsN, pairsK, pairsS, livePairs, valuesN, valuesK, valuesS}
-use Rattle.layering.specs.Sieve.{sieve, past, rowOf}
-use Rattle.layering.proofs.Size.{moves-fit}
-use Rattle.cursor.specs.RangeBound.{contains}
+use Rattle.layering.proofs.Few.{row-fits}
 use Rattle.verify.specs.Check.{checkNumber, check}
 use Rattle.verify.proofs.Theorem.{accepted-obeys}
 use Rattle.listed.specs.Types.{From}
 use Rattle.listed.specs.Listed.{listedPairs, lineCount}
 
--- a tree has no more pairs than value slots
-mutual
-  unfolding pairsN valuesN
-
-  few-pairsN : (n : Node) (p : List ℕ) → length (pairsN p n) ≤ valuesN n
-  few-pairsN (leaf h s) p = few-pairsS s p
-  few-pairsN (internode h k) p = few-pairsK k p
-  few-pairsN beyond p = omega arith
-
-  few-pairsK : (k : Kids) (p : List ℕ) → length (pairsK p k) ≤ valuesK k
-  few-pairsK (last n) p = few-pairsN n p
-  few-pairsK (more n x k) p = simp length-append (omega (arith, few-pairsN n p, few-pairsK k p))
-
-  few-pairsS : (s : Slots) (p : List ℕ) → length (pairsS p s) ≤ valuesS s
-  few-pairsS none p = omega arith
-  few-pairsS (value s r) p =
-      let rest = few-pairsS r p in
-      pick-ind (λ (l : List Pair). length l ≤ 1 + valuesS r) (s .live) (λ t. omega arith) (λ t. omega arith)
-  few-pairsS (layer s n r) p = simp length-append (omega (arith, few-pairsN n (p ++ ikeyBytes (s .ikey)), few-pairsS r p))
-
--- and a part of them is no more
-few-sieve : (t : List ℕ → Bool) (l : List Pair) → length (sieve t l) ≤ length l
-unfolding sieve
-few-sieve t [] = omega arith
-few-sieve t (x ∷ l) =
-    let rest = few-sieve t l in
-    pick-ind (λ (r : List Pair). length r ≤ length (x ∷ l)) (t (x .key)) (λ e. omega arith) (λ e. omega arith)
-
 pub few-lines : (image : List ℕ) → lineCount image ≤ length image + 2
-unfolding lineCount listedPairs rowOf livePairs
+unfolding lineCount listedPairs
 few-lines image =
-    let from = sieve (past From []) (livePairs image) in
     pick-ind (λ (n : ℕ). n ≤ length image + 2) (eqb (checkNumber (check image)) 0)
-    (λ t.
-    omega (
-      arith,
-      few-sieve (contains 0 []) from,
-      few-sieve (past From []) (livePairs image),
-      few-pairsN (treeOf image) [],
-      moves-fit image (accepted-obeys image (eqb-true _ 0 t) .0),
-    ))
+    (λ t. omega (arith, row-fits image (accepted-obeys image (eqb-true _ 0 t) .0) From [] 0 []))
     (λ f. omega arith)

@@ -1,7 +1,7 @@
 -- THE WHOLE SHEET: for every image, the lines of `open` and `next_line` together are the definition's sheet, however many more are asked
 -- for. The idea of the proof: what the walk's steps say is demand 3's row and then none, so each step's line is the next of the sheet;
 -- and demand 3's bound on the moves keeps their sum from wrapping.
-use Rattle.base.specs.Kit.{_≡_, refl, sym, ap, _∙_, subst, Bool, true, List, [], _∷_, _++_, append-assoc, append-nil, inl, ℕ, zero, suc, _+_, _^_, _≤_, _<_, zero-add, add-one, mod-eq-of-lt, arith, eqb, length, getD, replicate, eq-eqb, eqb-true}
+use Rattle.base.specs.Kit.{_≡_, refl, sym, ap, _∙_, subst, Bool, true, List, [], _∷_, _++_, append-assoc, append-nil, ℕ, zero, suc, _+_, _^_, _≤_, _<_, zero-add, add-one, mod-eq-of-lt, arith, eqb, length, getD, replicate, eqb-true}
 use Rattle.base.specs.Pick.{pick}
 use Rattle.base.proofs.Choice.{by-test}
 use Rattle.node.specs.Layout.{keyCount}
@@ -18,12 +18,13 @@ use Rattle.verify.proofs.Theorem.{accepted-obeys}
 use Rattle.walk.specs.Placing.{place}
 use Rattle.scan.specs.Machine.{step}
 use Rattle.lent.specs.Form.{stepAs}
-use Rattle.demands.specs.Demand.{steps, Lent, Said, handsOut, none, saidBy, said, movesOf, own, headSaid, tailOf, due}
+use Rattle.demands.specs.Demand.{steps, callsOf, Said, handsOut, none, saidBy, said, movesOf, headSaid, tailOf, due}
+use Rattle.demands.proofs.Calls.{own-lent, own-calls}
 use Rattle.demands.proofs.Demand.{demand-3, is-taken}
 use Rattle.sheet.specs.Sheet.{firstLine, pairLine, pairLines, lastLine, sheet, refused}
 use Rattle.listed.specs.Types.{From, Walk, Listing, First, Pairs, Refused, Done}
 use Rattle.listed.specs.CodeLines.{lineOf, noLine, begun, opened, sumOf, saidLine, lineAt, nextLine}
-use Rattle.listed.specs.Listed.{listedPairs, callsOf, walkMoves, listed, lineCount, linesOf, textOf, lineNumbers, Filled, AllLines}
+use Rattle.listed.specs.Listed.{listedPairs, walkMoves, listed, lineCount, linesOf, textOf, lineNumbers, Filled, AllLines}
 use Rattle.listed.proofs.Few.{few-lines}
 use Rattle.listed.proofs.Fits.{Fits, written-len, written-text, first-fits, last-fits, refused-fits, pair-fits}
 
@@ -114,17 +115,7 @@ module _ (image : List ℕ) where
   count-is [] n = omega arith
   count-is (x ∷ row) n = omega (arith, count-is row n)
 
-  -- calls by value, lent the image, are such as demand 3 speaks of; what is due of them is the row, and then none
-  lent-all : (n : ℕ) → Lent image (callsOf image n)
-  unfolding Lent callsOf
-  lent-all zero = tt
-  lent-all (suc n) = (inl refl, lent-all n)
-
-  own-all : (n : ℕ) → own image (callsOf image n) ≡ replicate n true
-  unfolding own callsOf
-  own-all zero = refl
-  own-all (suc n) = rw (eq-eqb (length image) (length image) refl) (ap {B = List Bool} (λ t. true ∷ t) (own-all n))
-
+  -- what is due is the row, and then none
   due-ends : (row : List Pair) → due (replicate (suc (length row)) true) row ≡ ends row
   unfolding due headSaid tailOf ends
   due-ends [] = refl
@@ -141,10 +132,10 @@ module _ (image : List ℕ) where
       let calls = callsOf image (suc (length row)) in
       let o = accepted-obeys image a in
       let taken = is-taken image a From [] 0 [] (omega arith) (omega arith) (omega arith) in
-      let d = demand-3 image b a From [] (λ i. omega arith) 0 [] taken calls (lent-all (suc (length row))) in
+      let d = demand-3 image b a From [] (λ i. omega arith) 0 [] taken calls (own-lent image (suc (length row))) in
       let fit : movesOf (steps w calls) < 2 ^ 64 = omega (arith, rw (o .1) at (d .total), moves-fit image (o .0), o .0 .short) in
       let short : All Short row = all-sieve Short (contains 0 []) _ (all-sieve Short (past From []) (livePairs image) (pairs-short image (o .0))) in
-      let ih = pairs-come row 0 w short (d .says ∙ ap (λ (t : List Bool). due t row) (own-all (suc (length row))) ∙ due-ends row) (omega arith) n in
+      let ih = pairs-come row 0 w short (d .says ∙ ap (λ (t : List Bool). due t row) (own-calls image (suc (length row))) ∙ due-ends row) (omega arith) n in
       let z : 0 + movesOf (steps w calls) ≡ movesOf (steps w (callsOf image (length row + 1))) = rw (add-one (length row)) (zero-add _) in
       subst (Comes (suc (count row 0)) (suc (count row n)) (begun (First (keyCount image)) image))
       (sym (append-assoc (firstLine (keyCount image)) (pairLines row) (lastLine (walkMoves image))))

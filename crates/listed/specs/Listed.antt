@@ -8,8 +8,7 @@ use Rattle.layering.specs.Keys.{Pair}
 use Rattle.layering.specs.Sieve.{rowOf}
 use Rattle.verify.specs.Check.{checkNumber, check}
 use Rattle.walk.specs.Placing.{place}
-use Rattle.lent.specs.Form.{byValue}
-use Rattle.demands.specs.Demand.{Call, steps, movesOf}
+use Rattle.demands.specs.Demand.{steps, callsOf, movesOf}
 use Rattle.sheet.specs.Sheet.{sheet, refused}
 use Rattle.listed.specs.Types.{From, Line, Listing}
 use Rattle.listed.specs.CodeLines.{opened, nextLine}
@@ -17,10 +16,6 @@ use Rattle.listed.specs.CodeLines.{opened, nextLine}
 -- The pairs of the sheet: the row from "" on, unbounded.
 unfoldable pub listedPairs : List ℕ → List Pair
 listedPairs image = rowOf image From [] 0 []
-
--- So many calls of the step over the image, by value.
-unfoldable pub callsOf : List ℕ → ℕ → List Call
-callsOf image n = replicate n (record { form = byValue; bytes = image })
 
 -- "the walk's moves": those of the calls that hand out the pairs, and of the one that has none.
 unfoldable pub walkMoves : List ℕ → ℕ

@@ -9,6 +9,7 @@ use Rattle.verify.specs.declared.Checked.{Checked}
 use Rattle.verify.specs.declared.Checked.the-variants as checked
 use Rattle.walk.specs.Placing.{placeFault, place}
 use Rattle.scan.specs.CodeLoop.{keysLeft}
+use Rattle.cursor.specs.declared.range_bound.StartMode.{StartMode}
 use Rattle.cursor.specs.declared.range_bound.StartMode.the-variants.{Above}
 use Rattle.walk.specs.declared.scan_state.Placed.{Placed}
 use Rattle.survey.specs.declared.Tallied.the-variants.{Counted, Declined}
@@ -16,10 +17,10 @@ use Rattle.survey.specs.Tally.{tally}
 use Rattle.survey.proofs.Counting.{row-counted}
 
 module _ (image : List ℕ) (cursor : List ℕ) (kind : ℕ) (bound : List ℕ) where
-  -- a placing has its number
-  code-is : place image Above cursor kind bound .code ≡ placeFault image cursor kind bound
+  -- a placing has its number, in either mode
+  pub code-is : (mode : StartMode) → place image mode cursor kind bound .code ≡ placeFault image cursor kind bound
   unfolding place
-  code-is =
+  code-is mode =
       let f : ℕ = placeFault image cursor kind bound in
       pick-ind (λ (p : Placed). p .code ≡ f) (not (eqb f 0)) (λ t. refl)
       (λ t. sym (eqb-true f 0 (not-false (eqb f 0) t)))
@@ -35,7 +36,7 @@ module _ (image : List ℕ) (cursor : List ℕ) (kind : ℕ) (bound : List ℕ) 
       by-number : tally image cursor kind bound
           ≡ pick (not (eqb (p .code) 0)) (Declined (p .code)) (Counted (length (rowOf image Above cursor kind bound)))
       unfolding tally checkNumber pick
-      by-number = rw (← e, f, ← code-is, ← g)
+      by-number = rw (← e, f, ← code-is Above, ← g)
 
       -- it declines
       pub place-declines : (p .code ≡ 0 → ⊥) → Declined (p .code) ≡ tally image cursor kind bound

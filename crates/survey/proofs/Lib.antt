@@ -1,3 +1,4 @@
 pub mod Counting
 pub mod Answers
 pub mod Theorem
+pub mod AsBefore

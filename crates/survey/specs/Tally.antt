@@ -1,5 +1,5 @@
--- The tally's answer (01: "Tally: how many keys a walk above a cursor hands out within a bound. Check's numbers, then 11, 12, 13. It
--- uses the short form").
+-- The tally's answer (01: "Tally: how many keys a walk above a cursor hands out within a bound. Check's numbers, then 11, 12, 13"; 02 [6]:
+-- "it shall name mode above and give the same answers as before"; before, it used the short form: Tally01.antt).
 use Rattle.base.specs.Kit.{not, List, ℕ, eqb, length}
 use Rattle.layering.specs.Sieve.{rowOf}
 use Rattle.base.specs.Pick.{pick}

@@ -8,7 +8,7 @@ use Rattle.base.specs.Kit.{_≡_, true, not, map, List, ℕ, _≤_, _<_, eqb, l
 use Rattle.base.specs.Pick.{pick}
 use Rattle.cursor.specs.RangeBound.{contains}
 use Rattle.cursor.specs.declared.range_bound.StartMode.{StartMode}
-use Rattle.cursor.specs.declared.range_bound.StartMode.the-variants.{Above}
+use Rattle.cursor.specs.declared.range_bound.StartMode.the-variants.{Above, From}
 use Rattle.layering.specs.Tree.{treeOf}
 use Rattle.layering.specs.Keys.{Pair, livePairs}
 use Rattle.layering.specs.Ascending.{All, Ascending}
@@ -16,10 +16,11 @@ use Rattle.layering.specs.Accepted.{Obeys}
 use Rattle.layering.specs.Sieve.{past, rowOf}
 use Rattle.verify.specs.Check.{checkNumber, checkCounts, check}
 use Rattle.verify.specs.Acceptance.{treeCounts}
-use Rattle.walk.specs.Placing.{placeFault, place}
+use Rattle.walk.specs.Placing.{placeFault, place, placeShort}
 use Rattle.walk.specs.declared.scan_state.Walk.{Walk}
 use Rattle.demands.specs.Demand.{Call, Lent, Demand3}
 use Rattle.survey.specs.Tally.{tallyNumber, tallyCount, tally}
+use Rattle.survey.specs.Tally01.{tally01}
 use Rattle.listed.specs.Listed.{AllLines}
 use Rattle.worked_examples.specs.Examples.{machineSays, paperSays, table}
 use Rattle.walk_record.specs.Record.{numbersOf, readWalk, isRecord}
@@ -30,8 +31,10 @@ use Rattle.verify.proofs.Theorem as verify
 use Rattle.layering.proofs.Pairs as layering
 use Rattle.layering.proofs.Asked as asked
 use Rattle.demands.proofs.Demand as demands
+use Rattle.walk.proofs.PlaceLaws as walk
 use Rattle.scan.proofs.ByRule01 as scan
 use Rattle.survey.proofs.Theorem as survey
+use Rattle.survey.proofs.AsBefore as as-before
 use Rattle.listed.proofs.Listed as listed
 use Rattle.worked_examples.proofs.Examples as worked
 use Rattle.walk_record.proofs.Inverse as inverse
@@ -87,11 +90,21 @@ pub placed-by-rule-01 : (image : List ℕ) (mode : StartMode) (cursor : List ℕ
     → placeFault image cursor kind bound ≡ 0 → length cursor ≤ 8 → ByRule01 mode (place image mode cursor kind bound .walk)
 placed-by-rule-01 = scan.placed-by-rule-01
 
+-- 02 [6]: the short form is the placing in mode from, over every image and argument.
+pub short-is-from : (image cursor : List ℕ) (kind : ℕ) (bound : List ℕ)
+    → placeShort image cursor kind bound ≡ place image From cursor kind bound
+short-is-from = walk.short-is-from
+
 -- THE TALLY: the check's number, else the placing's; and the length of the row above the cursor where both are 0, else 0.
 pub tally-says : (image cursor : List ℕ) (kind : ℕ) (bound : List ℕ)
     → (tallyNumber (tally image cursor kind bound) ≡ pick (not (eqb (checkNumber (check image)) 0)) (checkNumber (check image)) (placeFault image cursor kind bound))
     × (tallyCount (tally image cursor kind bound) ≡ pick (eqb (tallyNumber (tally image cursor kind bound)) 0) (length (rowOf image Above cursor kind bound)) 0)
 tally-says = survey.tally-says
+
+-- 02 [6]: for all inputs it answers as before, numbers included, when its walk was that of a short form which meant above.
+pub tally-as-before : (image : List ℕ) → Bytes image → (cursor : List ℕ) → Bytes cursor → (kind : ℕ) (bound : List ℕ)
+    → tally image cursor kind bound ≡ tally01 image cursor kind bound
+tally-as-before = as-before.tally-as-before
 
 -- THE SHEET: of any bytes, all lines together, however many more are asked for.
 pub all-lines : (image : List ℕ) → Bytes image → (more : ℕ) → AllLines image more

@@ -33,6 +33,6 @@ place image mode key kind bound =
     pick (not (eqb (placeFault image key kind bound) 0)) (record { code = placeFault image key kind bound; walk = zeroWalk })
     (record { code = 0; walk = freshWalk image mode key kind bound })
 
--- "A short form has no start mode and means above."
+-- "A short form has no start mode"; 02 [6]: "From now on it means from."
 unfoldable pub placeShort : List ℕ → List ℕ → ℕ → List ℕ → Placed
-placeShort image key kind bound = place image Above key kind bound
+placeShort image key kind bound = place image From key kind bound

@@ -122,9 +122,9 @@ pub fn place(image: &[u8], mode: StartMode, cursor: &[u8], kind: u8, bound: &[u8
     }
 }
 
-// The short form: no start mode, and it means above.
+// The short form: no start mode, and it means from. A key that equals the cursor is handed out too.
 pub fn place_short(image: &[u8], cursor: &[u8], kind: u8, bound: &[u8]) -> Placed
     ensures { λ r. ⌜ r ≡ placeShort (now (image .entry)) (now (cursor .entry)) kind (now (bound .entry)) ⌝ }
 {
-    place(image, StartMode::Above, cursor, kind, bound)
+    place(image, StartMode::From, cursor, kind, bound)
 }

@@ -1,4 +1,4 @@
--- The short form is the long one, above.
+-- The short form is the long one, from the cursor on.
 use Rattle.base.specs.Kit.{needs}
 use Rattle.walk.specs.Placing.{placeShort}
 use Rattle.walk.proofs.placing.place_short.Statement.{statement}
