@@ -1,6 +1,6 @@
 #!/usr/bin/env python3
-"""Writes the requests that crates/walk_table runs, from document 01's surveyed examples, those of crates/records, from 02's, and those
-of crates/sheet_table, whose answers are whole sheets.
+"""Writes the requests that crates/walk_table runs, from document 01's surveyed examples and 02's short form, those of crates/records, from
+02 [1] and of the C interface, and those of crates/sheet_table, whose answers are whole sheets.
 
     tools/examples.py > crates/walk_table/stdin
     tools/examples.py records > crates/records/stdin

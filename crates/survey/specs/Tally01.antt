@@ -15,7 +15,7 @@ use Rattle.survey.specs.declared.Tallied.the-variants.{Counted, Declined
 unfoldable pub placeShort01 : List ℕ → List ℕ → ℕ → List ℕ → Placed
 placeShort01 image key kind bound = place image Above key kind bound
 
--- "how many keys a walk .. hands out": the steps that say a key, of as many as the image has bytes.
+-- "how many keys a walk .. hands out": the steps that say a key, of as many as the image has bytes. An accepted image has no more keys.
 unfoldable pub keysSaid : List Said → ℕ
 keysSaid [] = 0
 keysSaid (handsOut x ∷ rest) = 1 + keysSaid rest
