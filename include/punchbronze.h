@@ -67,9 +67,9 @@ typedef struct pb_walk {
     uint8_t bound[PB_BUFFER];
 } pb_walk;
 
-/* Checks an image. Returns 0 where it is accepted, and then counts is { leaves, value slots, sub-layers }; else the number of the
- * first fault, 1 and 2 for its length and trailer, 3 to 10 for its tree, and then counts is { 0, 0, 0 }. counts stays as it was where
- * its length is not 3. */
+/* Checks an image. Returns 0 where it is accepted, and then counts is { leaves, value slots with the dead ones, sub-layers }; else the
+ * number of the first fault, 1 and 2 for its length and trailer, 3 to 9 for its tree, 10 for a trailer whose key count is not the number
+ * of live keys, and then counts is { 0, 0, 0 }. counts stays as it was where its length is not 3. */
 uint8_t pb_check(const uint8_t *image, size_t image_len, uint64_t *counts, size_t counts_len);
 
 /* Places a walk above a cursor: it will hand out the keys past the cursor, in byte order, up to the bound. A cursor is any key of up

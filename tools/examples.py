@@ -13,7 +13,8 @@ counts. Nothing here works them out.
 """
 import sys
 
-from images import EDITION, IDENTITY, LENGTH, ROOT, SAMPLES, changed, in_leaf, layers, nested, suffixed, trailer, tree_a, tree_b, two_leaves
+from images import COUNT, EDITION, IDENTITY, LENGTH, ROOT, SAMPLES
+from images import changed, in_leaf, layers, nested, one_dead, suffixed, trailer, tree_a, tree_b, two_leaves
 from layout import Leaf, Slot, build, ikey
 from requests import ABOVE, CHECK, EXCLUDED, FOREIGN, FROM, INCLUDED, LENT, MOVES, SHORT, TOTAL, request
 
@@ -30,7 +31,7 @@ def surveyed():
     request("P7", b, FROM, kind=INCLUDED, bound=b"entrance.1")
     request("P8", b, FROM, kind=EXCLUDED, bound=b"entrance.1")
     request("P9", build(Leaf(Slot(b"a", 1), Slot(b"a\0", 2))), ABOVE, b"a")
-    request("P10", build(Leaf(Slot(b"a", 1, live=False), Slot(b"b", 2))), FROM)
+    request("P10", build(one_dead()), FROM)
     request("P11", build(Leaf()), ABOVE, form=MOVES)
     request("P12", a, ABOVE, b"a" * 257)
 
@@ -186,9 +187,10 @@ def whole_names_altered():
 def over_c():
     """The check and the tally over the C interface, with the numbers of each and which is tried first."""
     a, b = build(tree_a()), build(tree_b())
-    dead = build(Leaf(Slot(b"a", 1, live=False), Slot(b"b", 2)))
-    for name, image in (("a", a), ("b", b), ("dead", dead), ("no-bytes", b""), ("length-432", a[:432]), ("edition-2", trailer(a, EDITION, 2)),
-                        ("root-0", trailer(a, ROOT, 0)), ("keylenx-9", changed(tree_a(), "<B", in_leaf(136 + 2), 9))):
+    dead = build(one_dead())
+    for name, image in (("a", a), ("b", b), ("dead", dead), ("dead-counted", trailer(dead, COUNT, 2)), ("no-bytes", b""),
+                        ("length-432", a[:432]), ("edition-2", trailer(a, EDITION, 2)), ("root-0", trailer(a, ROOT, 0)),
+                        ("keylenx-9", changed(tree_a(), "<B", in_leaf(136 + 2), 9))):
         resume("check-" + name, image, ABOVE, b"", form=CHECK)
         resume("tally-" + name, image, ABOVE, b"", form=TOTAL)
     resume("tally-above-a", a, ABOVE, b"a", form=TOTAL)
@@ -210,10 +212,12 @@ def whole():
 
 
 def sheets():
-    """Images whose sheets are printed: A, B with its layer, dead slots, several leaves, no keys, the longest line, and two that are
-    declined."""
+    """Images whose sheets are printed: A, B with its layer, dead slots, several leaves, no keys, the longest line, and three that are
+    declined: one that counts its dead keys, one damaged, one of no bytes."""
     for name in ("a", "b", "dead"):
         request(name, SAMPLES[name](), FROM)
+    request("P10", build(one_dead()), FROM)
+    request("P10-dead-counted", trailer(build(one_dead()), COUNT, 2), FROM)
     request("nested", build(nested()), FROM)
     request("no-keys", build(Leaf()), FROM)
     request("longest-line", build(Leaf(Slot(K8, 2**64 - 1, suffix=b"k" * 248))), FROM)

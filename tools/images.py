@@ -24,6 +24,11 @@ def tree_b():
     return Leaf(Slot(b"entrance", sub=Leaf(Slot(b".1", 4), Slot(b".2", 5))))
 
 
+def one_dead():
+    """P10's tree."""
+    return Leaf(Slot(b"a", 1, live=False), Slot(b"b", 2))
+
+
 def two_leaves():
     return Internode([ikey(b"m")], Leaf(Slot(b"a", 1), Slot(b"b", 2)), Leaf(Slot(b"m", 3), Slot(b"z", 4)))
 
@@ -86,6 +91,11 @@ def changed(tree, form, where, value):
     return put(image, form, where(tree), value)
 
 
+def all_live(leaf):
+    """The image of a root leaf with all sixteen bits of its live mask set."""
+    return changed(leaf, "<H", in_leaf(4), 0xFFFF)
+
+
 ROOT, COUNT, LENGTH, EDITION = range(4)
 IDENTITY = 0xEDCBA98765432100
 
@@ -106,7 +116,12 @@ def table():
     yield "tree-a", a
     yield "tree-b", build(tree_b())
     yield "empty-leaf", build(Leaf())
-    yield "dead-slot", build(Leaf(Slot(b"a", 1, live=False), Slot(b"b", 2)))
+    # live and dead: neither a layer's bit counts, nor an unused slot's, nor bit 15
+    yield "dead-slot", build(one_dead())
+    yield "all-dead", build(Leaf(Slot(b"12345678", 1, suffix=b"s", live=False), Slot(b"a", 2, live=False)))
+    yield "dead-in-layer", build(layers(1, one_dead()))
+    yield "mask-ffff-of-layer", all_live(tree_b())
+    yield "mask-ffff-of-leaf", all_live(tree_a())
     yield "two-leaves", build(two_leaves())
     yield "nested-internodes", build(nested())
     yield "internode-of-no-key", build(path(1))
@@ -186,8 +201,11 @@ def table():
     yield "last-next-of-sub-layer", changed(tree_b(), "<Q", lambda t: t.slots[0].sub.at + 392, 8)
     # 10
     yield "key-count-one-more", trailer(a, COUNT, 4)
-    yield "key-count-without-dead", trailer(build(Leaf(Slot(b"a", 1, live=False), Slot(b"b", 2))), COUNT, 1)
+    yield "key-count-with-dead", trailer(build(one_dead()), COUNT, 2)
+    yield "key-deleted-not-counted-out", changed(tree_a(), "<H", in_leaf(4), 0b101)
     yield "key-count-with-layer", trailer(build(tree_b()), COUNT, 3)
+    yield "key-count-by-mask", trailer(all_live(tree_b()), COUNT, 3)
+    yield "key-count-0-of-live", trailer(a, COUNT, 0)
     # several faults: the first decides
     yield "edition-before-tree", trailer(trailer(a, EDITION, 3), ROOT, 12)
     yield "separators-before-children", trailer(put(changed(two_leaves(), "<Q", in_leaf(8), 0), "<I", 8, 1), COUNT, 9)

@@ -48,7 +48,7 @@ def leaves(node):
 
 
 def build(root):
-    """The image of a tree, its records in post-order; every record gets its offset in `at`."""
+    """The image of a tree, its records in post-order; every record gets its offset in `at`. The trailer counts the live value slots."""
     out = bytearray(8)
     count = 0
 
@@ -78,7 +78,7 @@ def build(root):
                 struct.pack_into("<Q", b, 152 + 8 * s, slot.value)
                 if slot.keylenx == 64:
                     struct.pack_into("<II", b, 272 + 8 * s, slot.suffix_at, len(slot.suffix))
-                count += slot.sub is None
+                count += slot.sub is None and slot.live
             permutation = len(node.slots) + sum(s << 4 * i + 4 for i, s in enumerate(node.order))
             struct.pack_into("<IH", b, 0, node.version, mask)
             struct.pack_into("<Q", b, 8, permutation)

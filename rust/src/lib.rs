@@ -75,9 +75,10 @@ extern "C" {
     ) -> u8;
 }
 
-/// A call was declined, with the specification's number: 1 and on for a fault of the image, 11 for a cursor of over 256 bytes, 13 for a
-/// bound key of over 256 bytes, 21 for an image of another length than the walk's, 22 and 23 for an image that cannot be read on,
-/// which a walk never meets over the image that it was placed over where [`check`] accepts that.
+/// A call was declined, with the specification's number: 1 and on for a fault of the image (10 where its trailer's key count is not the
+/// number of live keys), 11 for a cursor of over 256 bytes, 13 for a bound key of over 256 bytes, 21 for an image of another length than
+/// the walk's, 22 and 23 for an image that cannot be read on, which a walk never meets over the image that it was placed over where
+/// [`check`] accepts that.
 #[derive(Clone, Copy, Debug, PartialEq, Eq)]
 pub struct Declined(pub u8);
 
@@ -95,7 +96,7 @@ fn taken(code: u8) -> Result<(), Declined> {
     }
 }
 
-/// The three numbers of an accepted image.
+/// The three numbers of an accepted image, the value slots with the dead ones.
 #[derive(Clone, Copy, Debug, PartialEq, Eq)]
 pub struct Counts {
     pub leaves: u64,

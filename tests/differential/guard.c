@@ -87,12 +87,13 @@ static int key_order(const uint8_t *a, size_t a_len, const uint8_t *b, size_t b_
     return d ? d : a_len < b_len ? -1 : a_len > b_len;
 }
 
-/* A walk over an accepted image to its end: its keys ascend past the start and lie in the bound, it is never declined, and its
- * moves are at most leaves + value slots + 4 * sub-layers + 2. How many keys. */
+/* A walk over an accepted image to its end: its keys ascend past the start and lie in the bound, it is never declined, its moves are
+ * at most leaves + value slots + 4 * sub-layers + 2, and its keys at most what the trailer counts, or all that, from "" unbounded.
+ * How many keys. */
 static uint64_t walk_whole(int from, const struct ask *a, const uint64_t counts[4])
 {
     struct walk w = SIZED;
-    uint64_t out[8] = {0}, keys = 0, moves = 0;
+    uint64_t out[8] = {0}, keys = 0, moves = 0, count;
     uint8_t last[256];
     size_t last_len = a->cursor_len;
     memcpy(last, a->cursor, last_len);
@@ -111,6 +112,8 @@ static uint64_t walk_whole(int from, const struct ask *a, const uint64_t counts[
         keys++;
     }
     must(moves <= counts[0] + counts[1] + 4 * counts[2] + 2, "more moves than 01 allows");
+    memcpy(&count, image + image_len - 24, 8);
+    must(from && a->cursor_len == 0 && a->kind == 0 ? keys == count : keys <= count, "the trailer counts other keys");
     must(step(&w, out, 4) == 0 && out[0] == 0 && out[3] == 0, "an ended walk");
     return keys;
 }

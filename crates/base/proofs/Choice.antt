@@ -1,5 +1,5 @@
 -- Laws of `pick`.
-use Rattle.base.specs.Kit.{_≡_, refl, sym, _∙_, Bool, true, false, not, ℕ, _≤_, _<_, leb, eqb, not-true, not-false, le-leb, lt-leb, eq-eqb, ne-eqb}
+use Rattle.base.specs.Kit.{_≡_, refl, sym, _∙_, Bool, true, false, not, ℕ, _≤_, _<_, leb, eqb, not-true, not-false, le-leb, lt-leb, eq-eqb, ne-eqb, arith, boolByte}
 use Rattle.base.specs.Pick.{pick}
 
 -- a case split on a test, with what the test says in each case
@@ -24,6 +24,15 @@ pub pick-inner : {A B : Type 0} (f : A → B) (b : Bool) (x y : A) (z : B) → p
 unfolding pick
 pick-inner f true x y z = refl
 pick-inner f false x y z = refl
+
+-- a test as a number, and as code has it
+pub one-at-most : (b : Bool) → pick b 1 0 ≤ 1
+one-at-most b = pick-ind (λ (n : ℕ). n ≤ 1) b (λ t. omega arith) (λ f. omega arith)
+
+pub one-by-test : (b : Bool) → boolByte b ≡ pick b 1 0
+unfolding pick
+one-by-test true = refl
+one-by-test false = refl
 
 -- What a call's answer r, which is the test b, says of b, where the code tests `!r`; and of a choice by b or by its negation: r
 -- itself was tested, or `!r`.

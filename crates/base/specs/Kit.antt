@@ -13,5 +13,6 @@ pub use lib.Pow.{pow-add}
 pub use lib.Dec.{T, eqb, leb, ltb}
 pub use lib.ListN.{List·getD-eq-default, drop, drop-of-length-le, getD, getD-replicate, length, length-append, length-drop, length-replicate, length-set, length-take, replicate, set, take, take-append-drop}
 pub use lib.Seq.{append-snoc, drop-at, drop-cons, drop-drop, drop-length, drop-paste, getD-set-other, getD-set-same, length-paste, length-take-le, paste, paste-suc, paste-zero, set-split, take-add, take-all, take-append-add, take-append-le, take-append-seam, take-at, take-length, take-paste, take-set-le, take-take}
+pub use mir.Val.{boolByte}
 pub use borrow.Author.Tests.{eq-eqb, eqb-false, eqb-true, le-leb, le-ltb, leb-false, leb-true, lt-leb, lt-ltb, ltb-false, ltb-true, ne-eqb, not-false, not-true}
 pub use borrow.Author.Needs.{needs}

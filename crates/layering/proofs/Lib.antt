@@ -8,6 +8,7 @@ pub mod Ascend
 pub mod Pairs
 pub mod Sieve
 pub mod Asked
+pub mod Lives
 pub mod Few
 pub mod Bound
 pub mod Walk

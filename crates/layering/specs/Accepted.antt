@@ -7,7 +7,7 @@ use Rattle.node.specs.Version.{atRest}
 use Rattle.node.specs.Permuter.{slotAt}
 use Rattle.node.specs.Layout.{keyCount, statedLength, edition}
 use Rattle.layering.specs.Tree.{Fields, Node, leaf, internode, beyond, Kids, last, more, Slots, none, value, layer, treeOf}
-use Rattle.layering.specs.Keys.{valuesN}
+use Rattle.layering.specs.Keys.{livesN}
 
 -- POSITION. "Records lie in post-order without gaps from byte 8 to the trailer: an internode's subtrees in child order,
 -- then it; for a leaf, in permutation order, each suffix (padded to a multiple of 8) or layer subtree, then the leaf."
@@ -171,7 +171,8 @@ unfoldable mutual
   FieldsS depth (value s r) = (EndsHere depth s ⊎ HasSuffix depth s) × FieldsS depth r
   FieldsS depth (layer s n r) = (depth < 31) × FieldsN (depth + 1) n × FieldsS depth r
 
--- AN ACCEPTED IMAGE obeys this.
+-- AN ACCEPTED IMAGE obeys this. Its `count` is 02's [3], "the trailer's count is the number of live value slots", where 01 has all
+-- used slots that are not layers.
 pub record Obeys (image : List ℕ) : Type 0 where
   pub long : 440 ≤ length image
   pub short : length image ≤ 16777216
@@ -185,4 +186,4 @@ pub record Obeys (image : List ℕ) : Type 0 where
   pub separators : InRangeN 0 (2 ^ 64) (treeOf image)
   pub links : LinkedN 0 (treeOf image)
   pub fields : FieldsN 0 (treeOf image)
-  pub count : keyCount image ≡ valuesN (treeOf image)
+  pub count : keyCount image ≡ livesN (treeOf image)

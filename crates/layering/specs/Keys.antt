@@ -1,5 +1,5 @@
--- The keys of a tree, written down by the paper's layering; the list of an image's live pairs, in order; and the three
--- numbers of a tree. Every tool over accepted images is stated against `livePairs`.
+-- The keys of a tree, written down by the paper's layering; the list of an image's live pairs, in order; the three numbers
+-- of a tree; and how many of its value slots are live. Every tool over accepted images is stated against `livePairs`.
 use Rattle.base.specs.Kit.{List, [], _∷_, _++_, ℕ, _+_, eqb, take}
 use Rattle.base.specs.Pick.{pick}
 use Rattle.key.specs.Ikey.{ikeyBytes}
@@ -80,3 +80,19 @@ unfoldable mutual
   layersS none = 0
   layersS (value s r) = layersS r
   layersS (layer s n r) = 1 + layersN n + layersS r
+
+-- 02 [3]: "the number of live value slots": used, no layer, and with its live bit set. No other bit of a mask counts.
+unfoldable mutual
+  pub livesN : Node → ℕ
+  livesN (leaf h s) = livesS s
+  livesN (internode h k) = livesK k
+  livesN beyond = 0
+
+  pub livesK : Kids → ℕ
+  livesK (last n) = livesN n
+  livesK (more n x k) = livesN n + livesK k
+
+  pub livesS : Slots → ℕ
+  livesS none = 0
+  livesS (value s r) = pick (s .live) 1 0 + livesS r
+  livesS (layer s n r) = livesN n + livesS r

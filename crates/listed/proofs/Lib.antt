@@ -3,3 +3,4 @@ pub mod LineLaws
 pub mod Fits
 pub mod Few
 pub mod Listed
+pub mod Counted

@@ -4,11 +4,12 @@
 -- What functions return is fixed by their contracts, which are equations with definitions of the same names: `check_image` (verify/src/lib.rt),
 -- `place` and `place_short` (walk/src/placing.rt), `step` (scan/src/step.rt), `step_lent` (lent/src/lib.rt), `tally` (survey/src/lib.rt),
 -- `open` and `next_line` (listed/src/lib.rt), and the five of punchbronze/src/lib.rt. None of them has a `requires`.
-use Rattle.base.specs.Kit.{_≡_, true, not, map, List, ℕ, _≤_, _<_, eqb, length, getD}
+use Rattle.base.specs.Kit.{_≡_, true, not, map, List, [], ℕ, _≤_, _<_, eqb, length, getD}
 use Rattle.base.specs.Pick.{pick}
 use Rattle.cursor.specs.RangeBound.{contains}
 use Rattle.cursor.specs.declared.range_bound.StartMode.{StartMode}
 use Rattle.cursor.specs.declared.range_bound.StartMode.the-variants.{Above, From}
+use Rattle.node.specs.Layout.{keyCount}
 use Rattle.layering.specs.Tree.{treeOf}
 use Rattle.layering.specs.Keys.{Pair, livePairs}
 use Rattle.layering.specs.Ascending.{All, Ascending}
@@ -21,7 +22,8 @@ use Rattle.walk.specs.declared.scan_state.Walk.{Walk}
 use Rattle.demands.specs.Demand.{Call, Lent, Demand3}
 use Rattle.survey.specs.Tally.{tallyNumber, tallyCount, tally}
 use Rattle.survey.specs.Tally01.{tally01}
-use Rattle.listed.specs.Listed.{AllLines}
+use Rattle.sheet.specs.Sheet.{sheet}
+use Rattle.listed.specs.Listed.{listedPairs, walkMoves, listed, AllLines}
 use Rattle.worked_examples.specs.Examples.{machineSays, paperSays, table}
 use Rattle.walk_record.specs.Record.{numbersOf, readWalk, isRecord}
 use Rattle.punchbronze.specs.Interface.{fitting, placedNumber, PutPlaced}
@@ -30,12 +32,14 @@ use Rattle.scan.proofs.ByRule01.{ByRule01}
 use Rattle.verify.proofs.Theorem as verify
 use Rattle.layering.proofs.Pairs as layering
 use Rattle.layering.proofs.Asked as asked
+use Rattle.layering.proofs.Lives as lives
 use Rattle.demands.proofs.Demand as demands
 use Rattle.walk.proofs.PlaceLaws as walk
 use Rattle.scan.proofs.ByRule01 as scan
 use Rattle.survey.proofs.Theorem as survey
 use Rattle.survey.proofs.AsBefore as as-before
-use Rattle.listed.proofs.Listed as listed
+use Rattle.listed.proofs.Listed as listing
+use Rattle.listed.proofs.Counted as counted
 use Rattle.worked_examples.proofs.Examples as worked
 use Rattle.walk_record.proofs.Inverse as inverse
 use Rattle.c_demands.proofs.CDemand as c
@@ -62,6 +66,10 @@ keys-ascend = layering.pairs-ascend
 
 pub keys-short : (image : List ℕ) → Obeys image → All (λ (x : Pair). length (x .key) ≤ 256) (livePairs image)
 keys-short = layering.pairs-short
+
+-- 02 [3]: their number, dead ones not counted, is the trailer's count: the length of the row from the empty key on.
+pub count-is-row : (image : List ℕ) → Obeys image → keyCount image ≡ length (rowOf image From [] 0 [])
+count-is-row = lives.count-is-row
 
 -- DEMAND 3: every list of steps of either form, from every placing that is taken over every accepted image.
 pub demand-3 : (image : List ℕ) → Bytes image → checkNumber (check image) ≡ 0 → (mode : StartMode) (cursor : List ℕ) → Bytes cursor
@@ -108,7 +116,12 @@ tally-as-before = as-before.tally-as-before
 
 -- THE SHEET: of any bytes, all lines together, however many more are asked for.
 pub all-lines : (image : List ℕ) → Bytes image → (more : ℕ) → AllLines image more
-all-lines = listed.all-lines
+all-lines = listing.all-lines
+
+-- 02 [3]: the count in the first line of an accepted image's sheet is that of its pairs, one line each, and these are all the live ones.
+pub count-is-lines : (image : List ℕ) → checkNumber (check image) ≡ 0
+    → (listed image ≡ sheet (length (listedPairs image)) (listedPairs image) (walkMoves image)) × (listedPairs image ≡ livePairs image)
+count-is-lines = counted.count-is-lines
 
 -- THE EXAMPLES P1 to P12, with the check's answers for their images.
 pub examples : map machineSays table ≡ map paperSays table

@@ -1,10 +1,10 @@
 -- What the inner answers tell, and that the check's numbers stay small: a subtree keeps `Bounded` for every number of slots
 -- ahead, a slot adds one to it, and the end of a leaf takes all its slots back. By recursion as the check's own.
 use Rattle.base.specs.Kit.{Bool, true, List, _≡_, refl, ℕ, zero, suc, _+_, _*_, _-_, _<_, _≤_, suc-mul, sub-one, arith, eqb, length, not-false, leb-true, eqb-true, eqb-false}
-use Rattle.base.proofs.Choice.{pick-ind}
+use Rattle.base.proofs.Choice.{pick-ind, one-at-most}
 use Rattle.node.specs.Version.{atRest}
-use Rattle.node.specs.Permuter.{sizeOf}
-use Rattle.node.specs.Layout.{versionAt, permutationAt, nextAt, nkeysAt}
+use Rattle.node.specs.Permuter.{sizeOf, slotAt}
+use Rattle.node.specs.Layout.{versionAt, permutationAt, liveAt, nextAt, nkeysAt}
 use Rattle.node.proofs.PermuterLaws.{size-fits}
 use Rattle.verify.specs.Types.{Suffix, Progress, RecordCheck, Leaf, Internode, RecordCheckFault as Fault, SlotCheck, Layer, Passed, SlotCheckFault as SlotFault}
 use Rattle.verify.specs.Check.{stop, andThen, each, demand, passLeaf, passInternode, enterLayer, leaveLayer, separatorsFrom, slotC, nodeC}
@@ -50,10 +50,10 @@ abbrev pub Kept : ℕ → Progress → Type 0
 Kept a p = p .fault ≡ 0 → Bounded a p
 
 pub weaker : (a b : ℕ) (p : Progress) → a ≤ b → Bounded a p → Bounded b p
-weaker a b p h k = record { within = k .within; counted = omega (arith, k .counted) }
+weaker a b p h k = record { within = k .within; counted = omega (arith, k .counted); lively = k .lively }
 
 stop-kept : (a n : ℕ) → Kept a (stop n)
-stop-kept a n e = record { within = omega arith; counted = omega arith }
+stop-kept a n e = record { within = omega arith; counted = omega arith; lively = omega arith }
 
 pub demand-kept : (a n : ℕ) (t : Bool) (p : Progress) → (t ≡ true → Kept a p) → Kept a (demand n t p)
 unfolding demand
@@ -82,13 +82,17 @@ SlotTold depth a (Passed q) = Bounded (a + 1) q
 SlotTold depth a (SlotFault n) = n ≡ 0 → ⊥
 
 module _ (image : List ℕ) (sized : Sized image) (depth at : ℕ) (inside : at + 432 ≤ length image) (lo hi : ℕ) where
-  suffix-told : (s : Suffix) (a : ℕ) (p : Progress) → Bounded a p → SlotTold depth a (suffixCheck at s p)
+  suffix-told : (s : Suffix) (live : Bool) (a : ℕ) (p : Progress) → Bounded a p → SlotTold depth a (suffixCheck at s live p)
   unfolding suffixCheck SlotTold
-  suffix-told s a p b =
+  suffix-told s live a p b =
       pick-ind (SlotTold depth a) _
       (λ t.
       let h = says-and (says-eqb (s .start) (p .place)) (says-leb (s .start + s .len) at) .holds t in
-      record { within = omega (arith, h, sized .short, b .within); counted = omega (arith, b .counted) })
+      record {
+        within = omega (arith, h, sized .short, b .within);
+        counted = omega (arith, b .counted);
+        lively = omega (arith, b .lively, one-at-most live);
+      })
       (λ f e. omega arith)
 
   pub slot-told : (i a : ℕ) (p : Progress) → Bounded a p → SlotTold depth a (slotCheck image depth at lo hi i p)
@@ -97,8 +101,8 @@ module _ (image : List ℕ) (sized : Sized image) (depth at : ℕ) (inside : at 
       let T = SlotTold depth a in
       pick-ind T _ (λ t e. omega arith) (λ f. pick-ind T _ (λ t e. omega arith) (λ fitting. pick-ind T _ (λ t e. omega arith)
       (λ f. pick-ind T _ (λ big. layer-kind depth _ (leb-true 128 _ big) (not-false _ fitting))
-      (λ f. pick-ind T _ (λ t. suffix-told _ a p b)
-      (λ f. record { within = omega (arith, b .within); counted = omega (arith, b .counted) })))))
+      (λ f. pick-ind T _ (λ t. suffix-told _ _ a p b)
+      (λ f. record { within = omega (arith, b .within); counted = omega (arith, b .counted); lively = omega (arith, b .lively, one-at-most (liveAt image at (slotAt (permutationAt image at) (record { 0 = i })))) })))))
 
   pub slot-adds : (sub : ℕ → Progress → Progress) → ((root : ℕ) → Adds 0 (sub root)) → (i : ℕ) → Adds 1 (slotC sub image depth at lo hi i)
   unfolding afterSlot SlotTold leaveLayer
@@ -106,18 +110,18 @@ module _ (image : List ℕ) (sized : Sized image) (depth at : ℕ) (inside : at 
     where
       go : (r : SlotCheck) → SlotTold depth a r → Kept (a + 1) (afterSlot r sub p)
       go (Layer root) t =
-          then-kept (a + 1 + 0) (a + 1) _ _ (h root (a + 1) (enterLayer p) (record { within = b .within; counted = omega (arith, b .counted) }))
-          (λ c e. record { within = c .within; counted = omega (arith, c .counted) })
+          then-kept (a + 1 + 0) (a + 1) _ _ (h root (a + 1) (enterLayer p) (record { within = b .within; counted = omega (arith, b .counted); lively = b .lively }))
+          (λ c e. record { within = c .within; counted = omega (arith, c .counted); lively = c .lively })
       go (Passed q) t = λ e. t
       go (SlotFault n) t = stop-kept (a + 1) n
 
 -- RECORDS' ENDS: a record starts at the place reached, and lies before the trailer.
 end-kept : {image : List ℕ} → Sized image → (a at size : ℕ) (q r : Progress) → r .place ≡ q .place + size → at + size + 32 ≤ length image
-    → r .counts .leaves + r .counts .«value_slots» + r .counts .«sub_layers» ≤ q .place + size + a
+    → r .counts .leaves + r .counts .«value_slots» + r .counts .«sub_layers» ≤ q .place + size + a → r .«live_slots» ≤ r .counts .«value_slots»
     → Kept a (demand 3 (eqb at (q .place)) r)
-end-kept sized a at size q r e h c =
+end-kept sized a at size q r e h c l =
     demand-kept a 3 (eqb at (q .place)) r
-    (λ t f. let g : at ≡ q .place = eqb-true _ _ t in record { within = omega (arith, sized .short); counted = omega arith })
+    (λ t f. let g : at ≡ q .place = eqb-true _ _ t in record { within = omega (arith, sized .short); counted = omega arith; lively = l })
 
 -- SUBTREES
 module _ (image : List ℕ) (sized : Sized image) (sub : ℕ → Progress → Progress) (subs : (root : ℕ) → Adds 0 (sub root)) (depth : ℕ) where
@@ -143,10 +147,10 @@ module _ (image : List ℕ) (sized : Sized image) (sub : ℕ → Progress → Pr
       go Leaf t =
           then-kept (a + size * 1) (a + 0) slots (leafEnd image at)
           (each-adds 1 _ (slot-adds image sized depth at (t .before) lo hi sub subs) size 0 a p b)
-          (λ c. end-kept sized (a + 0) at 400 slots (passLeaf (nextAt image at) slots) refl (omega (arith, t .before)) (omega (arith, c .counted, size-fits (permutationAt image at))))
+          (λ c. end-kept sized (a + 0) at 400 slots (passLeaf (nextAt image at) slots) refl (omega (arith, t .before)) (omega (arith, c .counted, size-fits (permutationAt image at))) (c .lively))
       go Internode t =
           then-kept (a + count * 0) (a + 0) children (recordEnd at 256) (each-adds 0 _ (kids (t .some)) count 0 a p b)
-          (λ c. end-kept sized (a + 0) at 256 children (passInternode children) refl (omega (arith, t .before)) (omega (arith, c .counted)))
+          (λ c. end-kept sized (a + 0) at 256 children (passInternode children) refl (omega (arith, t .before)) (omega (arith, c .counted)) (c .lively))
       go (Fault n) t = stop-kept (a + 0) n
 
   pub node-adds : (path at lo hi : ℕ) → Adds 0 (nodeC sub image depth path at lo hi)

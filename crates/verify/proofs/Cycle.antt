@@ -65,7 +65,7 @@ opened image at m told e = record { inside = omega (arith, told .before); is = e
 
 -- into a layer: its slot is one more that is ahead
 pub entered : (a : ℕ) (p q : Progress) → q ≡ enterLayer p → Bounded a p → Bounded (a + 1) q
-entered a p q e b = rw e (record { within = b .within; counted = omega (arith, b .counted) })
+entered a p q e b = rw e (record { within = b .within; counted = omega (arith, b .counted); lively = b .lively })
 
 -- RECORDS: the code's answer r for the record at `at`, reached at p
 module _ (image : List ℕ) (path at lo hi : ℕ) (p : Progress) (r : RecordCheck) (e : r ≡ recordCheck image path at lo hi p) where
@@ -161,7 +161,7 @@ separator-positive image path at lo hi i told h = (
 
 -- THE WHOLE. Nothing is counted at its begin.
 pub begin-bounded : (p : Progress) → p ≡ begin → Bounded 0 p
-begin-bounded p f = rw f (record { within = omega arith; counted = omega arith })
+begin-bounded p f = rw f (record { within = omega arith; counted = omega arith; lively = omega arith })
 
 -- by the code's number n for the heading
 module _ (image : List ℕ) (n : ℕ) (e : n ≡ headingFault image) where

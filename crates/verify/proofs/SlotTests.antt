@@ -7,7 +7,7 @@ use Rattle.node.specs.Layout.{InSlot, permutationAt, ikeyAt, keylenxAt, suffixA
 use Rattle.verify.specs.Types.{Slot, Suffix, Progress, SlotCheck, Passed, SlotCheckFault as Fault}
 use Rattle.layering.specs.Tree.{fieldsAt}
 use Rattle.layering.specs.Accepted.{IsPermutation}
-use Rattle.verify.specs.Check.{passSuffix, before, inOrder, listed, fits, inRange}
+use Rattle.verify.specs.Check.{passValue, before, inOrder, listed, fits, inRange}
 use Rattle.verify.specs.CodeCases.{keyed, suffixCheck, kindCheck, slotCheck, Opened}
 use Rattle.verify.proofs.Going.{says-leb, says-ltb, says-eqb, says-as, same-test}
 use Rattle.verify.proofs.Records.{says-permutes}
@@ -52,12 +52,12 @@ module _ (depth : ℕ) (f g : Suffix) (e : f ≡ g) where
       (same-test (says-as (λ q. omega arith) (λ q. omega arith) (says-leb (f .len) (248 - 8 * depth))) (says-leb (8 * depth + 8 + f .len) 256))
 
 -- number 3 of a suffix that starts at the place reached: its end is not added up
-module _ (at : ℕ) (s : Suffix) (p : Progress) (e : s .start ≡ p .place) where
-  pub suffix-over : at < s .start + s .len → Fault 3 ≡ suffixCheck at s p
+module _ (at : ℕ) (s : Suffix) (live : Bool) (p : Progress) (e : s .start ≡ p .place) where
+  pub suffix-over : at < s .start + s .len → Fault 3 ≡ suffixCheck at s live p
   unfolding suffixCheck pick
   suffix-over h = rw (eq-eqb _ _ e, lt-leb _ _ h)
 
-  pub suffix-before : s .start + s .len ≤ at → (q : Progress) → q ≡ passSuffix ((s .len + 7) / 8 * 8) p → Passed q ≡ suffixCheck at s p
+  pub suffix-before : s .start + s .len ≤ at → (q : Progress) → q ≡ passValue ((s .len + 7) / 8 * 8) live p → Passed q ≡ suffixCheck at s live p
   unfolding suffixCheck pick
   suffix-before h q f = rw (eq-eqb _ _ e, le-leb _ _ h, f)
 

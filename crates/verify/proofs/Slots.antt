@@ -7,7 +7,7 @@ use Rattle.layering.specs.Tree.{Fields, fieldsAt, Node, Slots, none, value, lay
 use Rattle.layering.specs.Accepted.{room, endN, endS, InPostOrderS, ShortPathsS, Before, BeforeFirst, AscendS, InRangeS, firstN, LinkedN, LinkedS, FieldsS}
 use Rattle.layering.proofs.Size.{leaves-fitS}
 use Rattle.verify.specs.Types.{Progress}
-use Rattle.verify.specs.Check.{stop, each, passSuffix, enterLayer, leaveLayer, listed, fits, before, inOrder, inRange, suffixC, layerSlotC, slotC}
+use Rattle.verify.specs.Check.{stop, each, passValue, enterLayer, leaveLayer, listed, fits, before, inOrder, inRange, suffixC, layerSlotC, slotC}
 use Rattle.verify.proofs.Going.{says-leb, says-eqb, says-and, says-self, Runs, runs-as, runs-to, runs-here, runs-test, runs-demand, runs-then}
 use Rattle.verify.proofs.Fields.{value-kind, kind-value, layer-kind, kind-layer, says-before, says-range}
 use Rattle.verify.proofs.Places.{lastN, linked-lastN, Within, room-aligned, alignedN}
@@ -34,15 +34,15 @@ unfoldable Suffixed : ℕ → Fields → Progress → Type 0
 Suffixed at s p = s .keylenx ≡ 64 → (s .start ≡ p .place) × (s .start + s .len ≤ at)
 
 suffix-runs : (at : ℕ) (s : Fields) (p : Progress)
-    → Runs (pick (eqb (s .keylenx) 64) (suffixC at s p) (passSuffix 0 p)) (Suffixed at s p) (passSuffix (room s) p)
+    → Runs (pick (eqb (s .keylenx) 64) (suffixC at s p) (passValue 0 (s .live) p)) (Suffixed at s p) (passValue (room s) (s .live) p)
 unfolding Suffixed suffixC room pick
 suffix-runs at s p = go (eqb (s .keylenx) 64) refl
   where
-    go : (b : Bool) → eqb (s .keylenx) 64 ≡ b → Runs (pick b (suffixC at s p) (passSuffix 0 p)) (Suffixed at s p) (passSuffix (room s) p)
+    go : (b : Bool) → eqb (s .keylenx) 64 ≡ b → Runs (pick b (suffixC at s p) (passValue 0 (s .live) p)) (Suffixed at s p) (passValue (room s) (s .live) p)
     go true e =
         runs-as (λ h q. h) (λ h. h (eqb-true _ _ e))
-        (runs-demand 2 (passSuffix (room s) p) (says-and (says-eqb (s .start) (p .place)) (says-leb (s .start + s .len) at)))
-    go false e = rw e (runs-as (λ h q. absurd (eqb-false _ _ e q)) (λ h. tt) (runs-here (passSuffix 0 p)))
+        (runs-demand 2 (passValue (room s) (s .live) p) (says-and (says-eqb (s .start) (p .place)) (says-leb (s .start + s .len) at)))
+    go false e = rw e (runs-as (λ h q. absurd (eqb-false _ _ e q)) (λ h. tt) (runs-here (passValue 0 (s .live) p)))
 
 -- the place behind it is before the trailer, as its leaf is
 suffix-before : {n : ℕ} (at : ℕ) (s : Fields) (p : Progress) → at + 432 ≤ n → p .place + 32 ≤ n → Suffixed at s p
@@ -78,7 +78,7 @@ module _ (image : List ℕ) (sub : ℕ → Progress → Progress) (tree : ℕ �
       (runs-test 5 (says-self (listed depth (slot i))) (λ h. fitting))
 
   value-runs : (i : ℕ) (p : Progress) → slot i .keylenx < 128
-      → Runs (slotC sub image depth at lo hi i p) (Tested i (Suffixed at (slot i) p)) (passSuffix (room (slot i)) p)
+      → Runs (slotC sub image depth at lo hi i p) (Tested i (Suffixed at (slot i) p)) (passValue (room (slot i)) (slot i .live) p)
   unfolding slotC pick
   value-runs i p small = rw (lt-leb 128 (slot i .keylenx) small) (tested i (suffix-runs at (slot i) p))
 
@@ -129,9 +129,9 @@ module _ (image : List ℕ) (sub : ℕ → Progress → Progress) (tree : ℕ �
     value-more small =
         rw (lt-leb 128 (slot i .keylenx) small)
         (runs-to (after-value p (slot i) others) (runs-as to from
-        (runs-then (slotsC (i + 1) n) (value-runs i p small) (r .going) (λ h. rest (passSuffix (room (slot i)) p) (ready (h .part))))))
+        (runs-then (slotsC (i + 1) n) (value-runs i p small) (r .going) (λ h. rest (passValue (room (slot i)) (slot i .live) p) (ready (h .part))))))
       where
-        ready : Suffixed at (slot i) p → Underway image (passSuffix (room (slot i)) p)
+        ready : Suffixed at (slot i) p → Underway image (passValue (room (slot i)) (slot i .live) p)
         ready h = record {
           going = r .going;
           aligned = omega (arith, r .aligned, room-aligned (slot i));
@@ -139,7 +139,7 @@ module _ (image : List ℕ) (sub : ℕ → Progress → Progress) (tree : ℕ �
         }
 
         Parts : Type 0
-        Parts = Tested i (Suffixed at (slot i) p) × Sound (i + 1) n (passSuffix (room (slot i)) p) others
+        Parts = Tested i (Suffixed at (slot i) p) × Sound (i + 1) n (passValue (room (slot i)) (slot i .live) p) others
 
         to : Parts → Sound i (suc n) p (value (slot i) others)
         to (t, s) =

@@ -2,10 +2,10 @@
 -- check has come to behind it. The rule on links is said of what the subtree's last leaf names (`lastN`).
 use Rattle.base.specs.Kit.{true, List, _≡_, ap, ℕ, _+_, _%_, _≤_, arith, length}
 use Rattle.layering.specs.Tree.{Fields, LeafHead, Node, leaf, Kids, more, Slots, none, value, layer}
-use Rattle.layering.specs.Keys.{leavesN, leavesK, leavesS, valuesN, valuesK, valuesS, layersN, layersK, layersS}
+use Rattle.layering.specs.Keys.{leavesN, leavesK, leavesS, valuesN, valuesK, valuesS, layersN, layersK, layersS, livesN, livesK, livesS}
 use Rattle.layering.specs.Accepted.{room, endN, endK, endS, InPostOrderN, InPostOrderK, InPostOrderS, ShortPathsN, ShortPathsK, ShortPathsS, AscendN, AscendK, AscendS, InRangeN, InRangeK, InRangeS, firstN, firstK, LinkedN, LinkedK, LinkedS, FieldsN, FieldsK, FieldsS}
 use Rattle.verify.specs.Types.{Counts, Progress}
-use Rattle.verify.specs.Check.{passSuffix, passLeaf, enterLayer, leaveLayer}
+use Rattle.verify.specs.Check.{passValue, passLeaf, enterLayer, leaveLayer}
 use Rattle.verify.proofs.Going.{Runs}
 use Rattle.verify.proofs.Places.{lastN, lastK, Within, alignedN}
 
@@ -22,6 +22,7 @@ afterN p n =
       chained = true;
       next = lastN n;
       counts = added (p .counts) (leavesN n) (valuesN n) (layersN n);
+      «live_slots» = p .«live_slots» + livesN n;
     }
 
 unfoldable pub afterK : Progress → Kids → Progress
@@ -32,6 +33,7 @@ afterK p k =
       chained = true;
       next = lastK k;
       counts = added (p .counts) (leavesK k) (valuesK k) (layersK k);
+      «live_slots» = p .«live_slots» + livesK k;
     }
 
 unfoldable pub afterS : Progress → Slots → Progress
@@ -42,11 +44,12 @@ afterS p s =
       chained = p .chained;
       next = p .next;
       counts = added (p .counts) (leavesS s) (valuesS s) (layersS s);
+      «live_slots» = p .«live_slots» + livesS s;
     }
 
 -- counts that agree in each number
-abbrev counted : Progress → Counts → Progress
-counted p c = record { fault = p .fault; place = p .place; chained = p .chained; next = p .next; counts = c }
+abbrev counted : Progress → Counts → ℕ → Progress
+counted p c l = record { fault = p .fault; place = p .place; chained = p .chained; next = p .next; counts = c; «live_slots» = l }
 
 pub same-counts : {a a′ b b′ c c′ : ℕ} → a ≡ a′ → b ≡ b′ → c ≡ c′
     → _≡_ {A = Counts} (record { leaves = a; «value_slots» = b; «sub_layers» = c })
@@ -54,37 +57,37 @@ pub same-counts : {a a′ b b′ c c′ : ℕ} → a ≡ a′ → b ≡ b′ →
 same-counts e f g = cc
 
 recount : (p q : Progress) → q .counts .leaves ≡ p .counts .leaves → q .counts .«value_slots» ≡ p .counts .«value_slots»
-    → q .counts .«sub_layers» ≡ p .counts .«sub_layers» → counted p (q .counts) ≡ p
-recount p q e f g = ap (counted p) (same-counts e f g)
+    → q .counts .«sub_layers» ≡ p .counts .«sub_layers» → q .«live_slots» ≡ p .«live_slots» → counted p (q .counts) (q .«live_slots») ≡ p
+recount p q e f g h = rw (same-counts e f g, h)
 
 -- One part after another comes to both.
 pub after-none : (p : Progress) → p ≡ afterS p none
-unfolding afterS added endS leavesS valuesS layersS
-after-none p = recount (afterS p none) p (omega arith) (omega arith) (omega arith)
+unfolding afterS added endS leavesS valuesS layersS livesS
+after-none p = recount (afterS p none) p (omega arith) (omega arith) (omega arith) (omega arith)
 
-pub after-value : (p : Progress) (s : Fields) (r : Slots) → afterS (passSuffix (room s) p) r ≡ afterS p (value s r)
-unfolding afterS added endS leavesS valuesS layersS
+pub after-value : (p : Progress) (s : Fields) (r : Slots) → afterS (passValue (room s) (s .live) p) r ≡ afterS p (value s r)
+unfolding afterS added endS leavesS valuesS layersS livesS
 after-value p s r =
-    recount (afterS p (value s r)) (afterS (passSuffix (room s) p) r) (omega arith) (omega arith) (omega arith)
+    recount (afterS p (value s r)) (afterS (passValue (room s) (s .live) p) r) (omega arith) (omega arith) (omega arith) (omega arith)
 
 -- behind a layer slot's layer
 unfoldable pub behind : Progress → Node → Progress
 behind p n = leaveLayer p (afterN (enterLayer p) n)
 
 pub after-layer : (p : Progress) (s : Fields) (n : Node) (r : Slots) → afterS (behind p n) r ≡ afterS p (layer s n r)
-unfolding behind afterN afterS added endS leavesS valuesS layersS leaveLayer
+unfolding behind afterN afterS added endS leavesS valuesS layersS livesS leaveLayer
 after-layer p s n r =
-    recount (afterS p (layer s n r)) (afterS (behind p n) r) (omega arith) (omega arith) (omega arith)
+    recount (afterS p (layer s n r)) (afterS (behind p n) r) (omega arith) (omega arith) (omega arith) (omega arith)
 
 pub after-leaf : (p : Progress) (h : LeafHead) (s : Slots) → passLeaf (h .next) (afterS p s) ≡ afterN p (leaf h s)
-unfolding afterN afterS added endN lastN leavesN valuesN layersN passLeaf
+unfolding afterN afterS added endN lastN leavesN valuesN layersN livesN passLeaf
 after-leaf p h s =
-    recount (afterN p (leaf h s)) (passLeaf (h .next) (afterS p s)) (omega arith) (omega arith) (omega arith)
+    recount (afterN p (leaf h s)) (passLeaf (h .next) (afterS p s)) (omega arith) (omega arith) (omega arith) (omega arith)
 
 pub after-more : (p : Progress) (n : Node) (x : ℕ) (k : Kids) → afterK (afterN p n) k ≡ afterK p (more n x k)
-unfolding afterN afterK added endK lastK leavesK valuesK layersK
+unfolding afterN afterK added endK lastK leavesK valuesK layersK livesK
 after-more p n x k =
-    recount (afterK p (more n x k)) (afterK (afterN p n) k) (omega arith) (omega arith) (omega arith)
+    recount (afterK p (more n x k)) (afterK (afterN p n) k) (omega arith) (omega arith) (omega arith) (omega arith)
 
 -- No fault yet, at a multiple of 8 before the trailer.
 pub record Underway (image : List ℕ) (p : Progress) : Type 0 where

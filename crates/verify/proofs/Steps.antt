@@ -8,7 +8,7 @@ use Rattle.node.specs.Permuter.{sizeOf}
 use Rattle.node.specs.Layout.{permutationAt, nkeysAt, childAt}
 use Rattle.layering.specs.Tree.{fieldsAt}
 use Rattle.layering.specs.Accepted.{room}
-use Rattle.verify.specs.Check.{stop, andThen, each, demand, passSuffix, passInternode, listed, fits, inRange, suffixC, layerSlotC, slotC, leafC, lowEnd, highEnd, internodeC, recordC, nodeC, layerWith, layerC}
+use Rattle.verify.specs.Check.{stop, andThen, each, demand, passValue, passInternode, listed, fits, inRange, suffixC, layerSlotC, slotC, leafC, lowEnd, highEnd, internodeC, recordC, nodeC, layerWith, layerC}
 use Rattle.verify.specs.CodeCases.{afterRecord, afterSlot, subC, leafCheck, internodeCheck, recordCheck, suffixCheck, kindCheck, slotCheck, recordEnd, leafEnd, layerEnd}
 use Rattle.verify.specs.Types.{Progress, RecordCheck, SlotCheck}
 
@@ -68,7 +68,7 @@ slot-is sub image depth at lo hi i p =
     let s = fieldsAt image at i in
     simp (
       pick-map (λ (r : SlotCheck). afterSlot r sub p),
-      pick-inner (λ (n : ℕ). pick (eqb (s .start) (p .place) && leb (s .start + s .len) at) (passSuffix n p) (stop 3)),
+      pick-inner (λ (n : ℕ). pick (eqb (s .start) (p .place) && leb (s .start + s .len) at) (passValue n (s .live) p) (stop 3)),
     )
 
 -- LAYERS

@@ -6,7 +6,7 @@ use Rattle.base.specs.Pick.{pick}
 use Rattle.node.specs.Version.{atRest, isLeaf}
 use Rattle.node.specs.Layout.{versionAt, nkeysAt, separatorAt, childAt}
 use Rattle.layering.specs.Tree.{Node, internode, Kids, more, kidsFrom, internodeHead, beyond, leafAt, nodeAt, layerAt}
-use Rattle.layering.specs.Keys.{leavesN, leavesK, valuesN, valuesK, layersN, layersK}
+use Rattle.layering.specs.Keys.{leavesN, leavesK, valuesN, valuesK, layersN, layersK, livesN, livesK}
 use Rattle.layering.specs.Accepted.{endN, endK, InPostOrderN, InPostOrderK, ShortPathsN, ShortPathsK, AscendN, AscendK, InRangeN, InRangeK, firstN, firstK, LinkedN, LinkedK, FieldsN, FieldsK}
 use Rattle.layering.proofs.Size.{leaves-fitK}
 use Rattle.verify.specs.Types.{Progress}
@@ -60,7 +60,7 @@ module _ (image : List ℕ) (depth : ℕ) (kid : ℕ → ℕ → ℕ → Progres
   -- THE CHILDREN from child i on, n more behind it.
   kids-run : (n i : ℕ) (p : Progress) → i + n ≡ nkeysAt image at → Underway image p → Separators image at (low i) hi i n
       → Runs (each childC i (suc n) p) (SoundK image depth (low i) hi p (kids i n)) (afterK p (kids i n))
-  unfolding each lowEnd highEnd pick kidsFrom Separators afterK afterN InPostOrderK endK lastK firstK ShortPathsK AscendK InRangeK LinkedK FieldsK leavesK valuesK layersK SoundN SoundK
+  unfolding each lowEnd highEnd pick kidsFrom Separators afterK afterN InPostOrderK endK lastK firstK ShortPathsK AscendK InRangeK LinkedK FieldsK leavesK valuesK layersK livesK SoundN SoundK
   kids-run zero i p e r b =
       rw (le-ltb i (nkeysAt image at) (omega arith))
       (runs-as (λ h. h .0) (λ h. (h, tt))
@@ -105,7 +105,7 @@ module _ (image : List ℕ) (depth : ℕ) (kid : ℕ → ℕ → ℕ → Progres
   pub internode-run : (p : Progress) → Underway image p → Reachable image 256 at p
       → Checks image depth lo hi (pick (not (atRest (versionAt image at) && leb (nkeysAt image at) 15)) (stop 4)
       (internodeC kid image at lo hi p)) p here
-  unfolding internodeHead internodeC passInternode lowEnd afterN afterK InPostOrderN endN lastN firstN ShortPathsN AscendN InRangeN LinkedN FieldsN leavesN valuesN layersN SoundN SoundK
+  unfolding internodeHead internodeC passInternode lowEnd afterN afterK InPostOrderN endN lastN firstN ShortPathsN AscendN InRangeN LinkedN FieldsN leavesN valuesN layersN livesN SoundN SoundK
   internode-run p r reach =
       runs-as to from
       (runs-test 3 (says-and (says-self (atRest (versionAt image at))) (says-leb (nkeysAt image at) 15)) (λ a.

@@ -6,6 +6,7 @@ use Rattle.base.proofs.Choice.{pick-ind}
 use Rattle.node.specs.Layout.{rootOffset, keyCount, statedLength, edition}
 use Rattle.node.specs.Heading.{lengthOk, headingFault}
 use Rattle.layering.specs.Tree.{treeOf}
+use Rattle.layering.specs.Keys.{livesN}
 use Rattle.layering.specs.Accepted.{endN, firstN, LinkedN, Obeys}
 use Rattle.verify.specs.Types.{Counts, Checked, Accepted, Declined, Progress}
 use Rattle.verify.specs.Check.{checkNumber, checkCounts, accepted, layerC, begin, finish, check}
@@ -58,10 +59,10 @@ accepts true n x c e = (refl, e)
 accepts false n x c e = absurd (let z : _≡_ {A = ℕ} 0 1 = cc in omega arith)
 
 finish-accepts : (image : List ℕ) (p : Progress) → p .fault ≡ 0 → p .place + 32 ≡ length image
-    → keyCount image ≡ p .counts .«value_slots» → finish image p ≡ accepted (p .counts)
+    → keyCount image ≡ p .«live_slots» → finish image p ≡ accepted (p .counts)
 unfolding finish pick
 finish-accepts image p e f g =
-    rw (eq-eqb (p .fault) 0 e, eq-eqb (p .place + 32) (length image) f, eq-eqb (keyCount image) (p .counts .«value_slots») g) refl
+    rw (eq-eqb (p .fault) 0 e, eq-eqb (p .place + 32) (length image) f, eq-eqb (keyCount image) (p .«live_slots») g) refl
 
 module _ (image : List ℕ) where
   -- the check of the whole tree
@@ -76,6 +77,10 @@ module _ (image : List ℕ) where
   unfolding afterN added treeCounts
   counted = same-counts (omega arith) (omega arith) (omega arith)
 
+  lively : afterN begin (treeOf image) .«live_slots» ≡ livesN (treeOf image)
+  unfolding afterN
+  lively = omega arith
+
   accepts-tree : (c : Counts) → check image ≡ accepted c → Obeys image × (c ≡ treeCounts (treeOf image))
   unfolding check finish whole afterN treeCounts SoundN
   accepts-tree c e =
@@ -83,14 +88,14 @@ module _ (image : List ℕ) where
       let h : Headed image = says-headed image .holds (heading .0) in
       let going = accepts (eqb (whole .fault) 0) _ _ c (heading .1) in
       let ended = accepts (eqb (whole .place + 32) (length image)) _ _ c (going .1) in
-      let count = accepts (eqb (keyCount image) (whole .counts .«value_slots»)) _ _ c (ended .1) in
+      let count = accepts (eqb (keyCount image) (whole .«live_slots»)) _ _ c (ended .1) in
       let s : SoundLayer image 0 begin (treeOf image) = run (h .long) .only (says-eqb (whole .fault) 0 .holds (going .0)) in
       let q : whole ≡ afterN begin (treeOf image) = run (h .long) .comes s in
       let n : whole .counts ≡ treeCounts (treeOf image) = ap (λ (p : Progress). p .counts) q ∙ counted in
       let end = says-eqb (whole .place + 32) (length image) .holds (ended .0) in
       let to-trailer : endN 8 (treeOf image) ≡ length image - 32 = omega (arith, end, ap (λ (p : Progress). p .place) q) in
       let links = subst (λ (x : ℕ). LinkedN x (treeOf image)) (s .ends) (s .sound .links) in
-      let values = says-eqb (keyCount image) (whole .counts .«value_slots») .holds (count .0) ∙ ap (λ (d : Counts). d .«value_slots») n in
+      let live = says-eqb (keyCount image) (whole .«live_slots») .holds (count .0) ∙ ap (λ (p : Progress). p .«live_slots») q ∙ lively in
       (search, same-numbers (whole .counts) c (count .1) ∙ n)
 
   tree-accepted : Obeys image → check image ≡ accepted (treeCounts (treeOf image))
@@ -106,7 +111,7 @@ module _ (image : List ℕ) where
       rw (says-headed image .passes h)
       (finish-accepts image whole (ap (λ (p : Progress). p .fault) q)
       (omega (arith, o .to-trailer, o .long, ap (λ (p : Progress). p .place) q))
-      (o .count ∙ sym (ap (λ (d : Counts). d .«value_slots») c))
+      (o .count ∙ sym (ap (λ (p : Progress). p .«live_slots») q ∙ lively))
       ∙ ap accepted c)
 
   -- no image is declined with 0
@@ -118,7 +123,7 @@ module _ (image : List ℕ) where
       pick-ind P (not (eqb (headingFault image) 0)) (λ t. no-zero _ (eqb-false _ 0 (not-true _ t)))
       (λ _. pick-ind P (not (eqb (whole .fault) 0)) (λ t. no-zero _ (eqb-false _ 0 (not-true _ t)))
       (λ _. pick-ind P (not (eqb (whole .place + 32) (length image))) (λ _. no-zero 3 (λ e. omega arith))
-      (λ _. pick-ind P (not (eqb (keyCount image) (whole .counts .«value_slots»))) (λ _. no-zero 10 (λ e. omega arith)) (λ _ e. refl))))
+      (λ _. pick-ind P (not (eqb (keyCount image) (whole .«live_slots»))) (λ _. no-zero 10 (λ e. omega arith)) (λ _ e. refl))))
 
   pub accepted-obeys : checkNumber (check image) ≡ 0 → Obeys image × (checkCounts (check image) ≡ treeCounts (treeOf image))
   accepted-obeys e = accepts-tree _ (is-accepted e)

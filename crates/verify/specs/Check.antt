@@ -23,9 +23,21 @@ checkCounts (Declined n) = record { leaves = 0; «value_slots» = 0; «sub_layer
 unfoldable pub accepted : Counts → Checked
 accepted c = Accepted (c .leaves) (c .«value_slots») (c .«sub_layers»)
 
--- GOING ON. Nothing is looked at behind a fault.
+-- GOING ON. Nothing is counted yet, and no leaf was met.
+abbrev pub uncounted : ℕ → ℕ → Progress
+uncounted fault place =
+    record {
+      fault = fault;
+      place = place;
+      chained = false;
+      next = 0;
+      counts = record { leaves = 0; «value_slots» = 0; «sub_layers» = 0 };
+      «live_slots» = 0;
+    }
+
+-- Nothing is looked at behind a fault.
 abbrev pub stop : ℕ → Progress
-stop n = record { fault = n; place = 0; chained = false; next = 0; counts = record { leaves = 0; «value_slots» = 0; «sub_layers» = 0 } }
+stop n = uncounted n 0
 
 unfoldable pub andThen : Progress → (Progress → Progress) → Progress
 andThen p f = pick (eqb (p .fault) 0) (f p) p
@@ -39,14 +51,15 @@ each f i (suc n) p = andThen (f i p) (each f (i + 1) n)
 unfoldable pub demand : ℕ → Bool → Progress → Progress
 demand n test p = pick test p (stop n)
 
--- What a part of the tree adds to the progress.
-abbrev pub passSuffix : ℕ → Progress → Progress
-passSuffix bytes p = record {
+-- What a part of the tree adds to the progress: a value slot whose suffix takes so many bytes, live or dead.
+abbrev pub passValue : ℕ → Bool → Progress → Progress
+passValue bytes live p = record {
   fault = p .fault;
   place = p .place + bytes;
   chained = p .chained;
   next = p .next;
   counts = record { leaves = p .counts .leaves; «value_slots» = p .counts .«value_slots» + 1; «sub_layers» = p .counts .«sub_layers» };
+  «live_slots» = p .«live_slots» + pick live 1 0;
 }
 
 unfoldable pub passLeaf : ℕ → Progress → Progress
@@ -56,10 +69,19 @@ passLeaf next p = record {
   chained = true;
   next = next;
   counts = record { leaves = p .counts .leaves + 1; «value_slots» = p .counts .«value_slots»; «sub_layers» = p .counts .«sub_layers» };
+  «live_slots» = p .«live_slots»;
 }
 
 unfoldable pub passInternode : Progress → Progress
-passInternode p = record { fault = p .fault; place = p .place + 256; chained = p .chained; next = p .next; counts = p .counts }
+passInternode p =
+    record {
+      fault = p .fault;
+      place = p .place + 256;
+      chained = p .chained;
+      next = p .next;
+      counts = p .counts;
+      «live_slots» = p .«live_slots»;
+    }
 
 -- A sub-layer has a chain of leaves of its own; behind it that of the layer above goes on.
 abbrev pub enterLayer : Progress → Progress
@@ -69,10 +91,19 @@ enterLayer p = record {
   chained = false;
   next = 0;
   counts = record { leaves = p .counts .leaves; «value_slots» = p .counts .«value_slots»; «sub_layers» = p .counts .«sub_layers» + 1 };
+  «live_slots» = p .«live_slots»;
 }
 
 unfoldable pub leaveLayer : Progress → Progress → Progress
-leaveLayer above p = record { fault = p .fault; place = p .place; chained = above .chained; next = above .next; counts = p .counts }
+leaveLayer above p =
+    record {
+      fault = p .fault;
+      place = p .place;
+      chained = above .chained;
+      next = above .next;
+      counts = p .counts;
+      «live_slots» = p .«live_slots»;
+    }
 
 -- RECORDS. "On reaching a record 3: offset not a multiple of 8, below the place reached, or record running into the
 -- trailer": a record of `size` bytes at `at`.
@@ -104,7 +135,7 @@ inRange lo hi s = leb lo (s .ikey) && ltb (s .ikey) hi
 
 -- "3: a suffix not at the place reached or running into its leaf".
 unfoldable pub suffixC : ℕ → Fields → Progress → Progress
-suffixC at s p = demand 3 (eqb (s .start) (p .place) && leb (s .start + s .len) at) (passSuffix (room s) p)
+suffixC at s p = demand 3 (eqb (s .start) (p .place) && leb (s .start + s .len) at) (passValue (room s) (s .live) p)
 
 -- "then the layer"; `sub` checks the layer at a root.
 unfoldable pub layerSlotC : (ℕ → Progress → Progress) → Fields → Progress → Progress
@@ -117,7 +148,7 @@ slotC sub image depth at lo hi i p =
     pick (not (listed depth s)) (stop 6)
     (pick (not (fits depth s)) (stop 7)
     (pick (not (inOrder image at i && inRange lo hi s)) (stop 8)
-    (pick (leb 128 (s .keylenx)) (layerSlotC sub s p) (pick (eqb (s .keylenx) 64) (suffixC at s p) (passSuffix 0 p)))))
+    (pick (leb 128 (s .keylenx)) (layerSlotC sub s p) (pick (eqb (s .keylenx) 64) (suffixC at s p) (passValue 0 (s .live) p)))))
 
 -- LEAVES. "9: the previous leaf's `next` is not this leaf".
 unfoldable pub expected : ℕ → Progress → Bool
@@ -191,16 +222,16 @@ unfoldable pub layerC : List ℕ → ℕ → ℕ → Progress → Progress
 layerC image zero root p = layerWith (λ r q. stop 7) image 31 root p
 layerC image (suc below) root p = layerWith (layerC image below) image (31 - suc below) root p
 
--- "At the end 3: root's end is not the trailer; 10: key count."
+-- "At the end 3: root's end is not the trailer; 10: key count." 02 [3]: "10 now compares the live count".
 unfoldable pub finish : List ℕ → Progress → Checked
 finish image p =
     pick (not (eqb (p .fault) 0)) (Declined (p .fault))
     (pick (not (eqb (p .place + 32) (length image))) (Declined 3)
-    (pick (not (eqb (keyCount image) (p .counts .«value_slots»))) (Declined 10) (accepted (p .counts))))
+    (pick (not (eqb (keyCount image) (p .«live_slots»))) (Declined 10) (accepted (p .counts))))
 
 -- Before the first record: nothing is counted, and records begin at byte 8.
 abbrev pub begin : Progress
-begin = record { fault = 0; place = 8; chained = false; next = 0; counts = record { leaves = 0; «value_slots» = 0; «sub_layers» = 0 } }
+begin = uncounted 0 8
 
 -- THE CHECK.
 unfoldable pub check : List ℕ → Checked

@@ -1,13 +1,13 @@
 -- What the check's inner functions answer, each in the order of its tests, and what the cases of their answers stand for.
 -- proofs/Steps.antt proves that they come to the check (specs/Check.antt).
-use Rattle.base.specs.Kit.{true, false, not, _&&_, List, [], _≡_, ℕ, zero, suc, _+_, _*_, _/_, _≤_, leb, eqb, length}
+use Rattle.base.specs.Kit.{Bool, true, false, not, _&&_, List, [], _≡_, ℕ, zero, suc, _+_, _*_, _/_, _≤_, leb, eqb, length}
 use Rattle.base.specs.Pick.{pick}
 use Rattle.node.specs.Version.{isLeaf, atRest}
 use Rattle.node.specs.Permuter.{slotAt}
-use Rattle.node.specs.Layout.{versionAt, permutationAt, ikeyAt, keylenxAt, valueAt, suffixAt, nextAt, nkeysAt}
+use Rattle.node.specs.Layout.{versionAt, permutationAt, ikeyAt, keylenxAt, liveAt, valueAt, suffixAt, nextAt, nkeysAt}
 use Rattle.verify.specs.Types.{Slot, Suffix, Progress, RecordCheck, Leaf, Internode, RecordCheckFault as Fault, SlotCheck, Layer, Passed, SlotCheckFault as SlotFault}
 use Rattle.layering.specs.Tree.{Fields}
-use Rattle.verify.specs.Check.{stop, andThen, demand, passSuffix, passLeaf, enterLayer, leaveLayer, reachable, expected, permutes, separatorsFrom, listed, fits, inOrder, inRange, layerC}
+use Rattle.verify.specs.Check.{stop, andThen, demand, passValue, passLeaf, enterLayer, leaveLayer, reachable, expected, permutes, separatorsFrom, listed, fits, inOrder, inRange, layerC}
 
 -- A record that was reached: what its leaf or its children come to, or the fault.
 unfoldable pub afterRecord : RecordCheck → Progress → Progress → Progress
@@ -53,14 +53,15 @@ abbrev pub keyed : ℕ → ℕ → ℕ → Fields
 keyed ikey keylenx len = record { ikey = ikey; keylenx = keylenx; live = false; value = 0; start = 0; len = len; suffix = [] }
 
 -- A suffix at its place, and a slot that passed its tests, by its kind.
-unfoldable pub suffixCheck : ℕ → Suffix → Progress → SlotCheck
-suffixCheck at s p =
-    pick (eqb (s .start) (p .place) && leb (s .start + s .len) at) (Passed (passSuffix ((s .len + 7) / 8 * 8) p)) (SlotFault 3)
+unfoldable pub suffixCheck : ℕ → Suffix → Bool → Progress → SlotCheck
+suffixCheck at s live p =
+    pick (eqb (s .start) (p .place) && leb (s .start + s .len) at) (Passed (passValue ((s .len + 7) / 8 * 8) live p)) (SlotFault 3)
 
 unfoldable pub kindCheck : List ℕ → ℕ → Slot → Progress → SlotCheck
 kindCheck image at slot p =
     pick (leb 128 (keylenxAt image at slot)) (Layer (valueAt image at slot))
-    (pick (eqb (keylenxAt image at slot) 64) (suffixCheck at (suffixAt image at slot) p) (Passed (passSuffix 0 p)))
+    (pick (eqb (keylenxAt image at slot) 64) (suffixCheck at (suffixAt image at slot) (liveAt image at slot) p)
+    (Passed (passValue 0 (liveAt image at slot) p)))
 
 unfoldable pub slotCheck : List ℕ → ℕ → ℕ → ℕ → ℕ → ℕ → Progress → SlotCheck
 slotCheck image depth at lo hi i p =
@@ -80,7 +81,7 @@ pub record Opened (image : List ℕ) (at permutation : ℕ) : Type 0 where
 unfoldable pub recordEnd : ℕ → ℕ → Progress → Progress
 recordEnd at size q =
     demand 3 (eqb at (q .place))
-    (record { fault = q .fault; place = q .place + size; chained = q .chained; next = q .next; counts = q .counts })
+    (record { fault = q .fault; place = q .place + size; chained = q .chained; next = q .next; counts = q .counts; «live_slots» = q .«live_slots» })
 
 unfoldable pub leafEnd : List ℕ → ℕ → Progress → Progress
 leafEnd image at q = demand 3 (eqb at (q .place)) (passLeaf (nextAt image at) q)
@@ -89,10 +90,12 @@ unfoldable pub layerEnd : Progress → Progress
 layerEnd q = demand 9 (eqb (q .next) 0) q
 
 -- NUMBERS STAY SMALL. All that is counted is at most the place reached, but for `ahead` slots of leaves that are not passed
--- yet: a leaf takes 400 bytes and has at most 15 slots, so that `ahead` is at most 15 for each layer on the way down.
+-- yet: a leaf takes 400 bytes and has at most 15 slots, so that `ahead` is at most 15 for each layer on the way down. No more
+-- slots are live than have values.
 pub record Bounded (ahead : ℕ) (p : Progress) : Type 0 where
   pub within : p .place ≤ 16777216
   pub counted : p .counts .leaves + p .counts .«value_slots» + p .counts .«sub_layers» ≤ p .place + ahead
+  pub lively : p .«live_slots» ≤ p .counts .«value_slots»
 
 -- An image that number 1 is not met by.
 pub record Sized (image : List ℕ) : Type 0 where

@@ -35,13 +35,14 @@ pub enum Checked {
     Declined(u8),
 }
 
-// How far the check has come: the place reached; the leaf that the last one names as its next; what was counted; the
-// number of the fault that ended the check, or 0; and whether this layer has had a leaf. The two small fields stand last:
-// between wide ones the gaps behind them would be copied, which took two thirds of the check's time.
+// How far the check has come: the place reached; the leaf that the last one names as its next; what was counted, and how many
+// of the value slots are live; the number of the fault that ended the check, or 0; and whether this layer has had a leaf. The
+// two small fields stand last: between wide ones the gaps behind them would be copied, which took two thirds of the check's time.
 pub struct Progress {
     pub place: usize,
     pub next: u64,
     pub counts: Counts,
+    pub live_slots: usize,
     pub fault: u8,
     pub chained: bool,
 }

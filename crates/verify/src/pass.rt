@@ -4,14 +4,14 @@ use crate::Counts;
 use crate::Progress;
 use node::leaf;
 use node::trailer;
-ghost use Rattle.base.specs.Kit.{_≡_, false, _+_, _≤_, length};
+ghost use Rattle.base.specs.Kit.{_≡_, _+_, _≤_, length};
 ghost use Rattle.node.specs.Layout.{InLeaf};
-ghost use Rattle.verify.specs.Check.{stop, andThen, passSuffix, enterLayer, leaveLayer, finish, begin};
+ghost use Rattle.verify.specs.Check.{uncounted, stop, andThen, passValue, enterLayer, leaveLayer, finish, begin};
 ghost use Rattle.verify.specs.CodeCases.{recordEnd, leafEnd, layerEnd, Bounded};
 
 // Nothing is counted, and no leaf was met.
 fn uncounted(fault: u8, place: usize) -> Progress
-    ensures { λ r. ⌜ r ≡ record { fault = fault; place = place; chained = false; next = 0; counts = record { leaves = 0; «value_slots» = 0; «sub_layers» = 0 } } ⌝ }
+    ensures { λ r. ⌜ r ≡ uncounted fault place ⌝ }
 {
     Progress {
         fault: fault,
@@ -23,6 +23,7 @@ fn uncounted(fault: u8, place: usize) -> Progress
             value_slots: 0,
             sub_layers: 0,
         },
+        live_slots: 0,
     }
 }
 
@@ -41,15 +42,16 @@ pub fn stopped(n: u8) -> Progress
 }
 
 // Past a value slot, whose suffix takes `bytes`.
-pub fn pass_suffix(p: Progress, bytes: usize) -> Progress
+pub fn pass_value(p: Progress, bytes: usize, live: bool) -> Progress
     requires { ⌜ Bounded 480 p ⌝ }
     requires { ⌜ bytes ≤ 4294967304 ⌝ }
-    ensures { λ r. ⌜ r ≡ passSuffix bytes p ⌝ }
+    ensures { λ r. ⌜ r ≡ passValue bytes live p ⌝ }
 {
     let mut q = p;
     let values = p.counts.value_slots + 1;
     q.place = p.place + bytes;
     q.counts.value_slots = values;
+    q.live_slots = p.live_slots + (live as usize);
     q
 }
 
@@ -138,7 +140,7 @@ pub fn finish(image: &[u8], p: Progress) -> Checked
     if p.place + 32 != image.len() {
         return Checked::Declined(3);
     }
-    if trailer::key_count(image) != (p.counts.value_slots as u64) {
+    if trailer::key_count(image) != (p.live_slots as u64) {
         return Checked::Declined(10);
     }
     Checked::Accepted {

@@ -132,10 +132,10 @@ fn is_placed(
 }
 
 // Number 3 for a suffix of the leaf at `at`.
-fn suffix_check(at: usize, s: Suffix, p: Progress) -> SlotCheck
+fn suffix_check(at: usize, s: Suffix, live: bool, p: Progress) -> SlotCheck
     requires { ⌜ Bounded 480 p ⌝ }
     requires { ⌜ at ≤ 16777216 ⌝ }
-    ensures { λ r. ⌜ r ≡ suffixCheck at s p ⌝ }
+    ensures { λ r. ⌜ r ≡ suffixCheck at s live p ⌝ }
 {
     let start = s.start;
     let len = s.len;
@@ -148,10 +148,10 @@ fn suffix_check(at: usize, s: Suffix, p: Progress) -> SlotCheck
     if at - start < len {
         return SlotCheck::Fault(3);
     }
-    SlotCheck::Passed(pass::pass_suffix(p, (len + 7) / 8 * 8))
+    SlotCheck::Passed(pass::pass_value(p, (len + 7) / 8 * 8, live))
 }
 
-// A slot that passed numbers 6 to 8, by its kind.
+// A slot that passed numbers 6 to 8, by its kind. A layer's live bit is not read.
 fn kind_check(image: &[u8], at: usize, slot: Slot, p: Progress) -> SlotCheck
     requires { ⌜ InSlot (now image) at slot ⌝ }
     requires { ⌜ at ≤ 16777216 ⌝ }
@@ -162,10 +162,11 @@ fn kind_check(image: &[u8], at: usize, slot: Slot, p: Progress) -> SlotCheck
     if leaf::LAYER_KEYLENX <= keylenx {
         return SlotCheck::Layer(leaf::value(image, at, slot));
     }
+    let live = leaf::live(image, at, slot);
     if keylenx == leaf::KSUF_KEYLENX {
-        return suffix_check(at, leaf::ksuf(image, at, slot), p);
+        return suffix_check(at, leaf::ksuf(image, at, slot), live, p);
     }
-    SlotCheck::Passed(pass::pass_suffix(p, 0))
+    SlotCheck::Passed(pass::pass_value(p, 0, live))
 }
 
 // The slot at a position of the leaf at `at`, whose layer lies at `depth`.

@@ -80,7 +80,7 @@ paperSays e = e .says
 
 -- "Tree A: one leaf, ""=1, "a"=7, "ab"=9, 440 bytes."
 unfoldable pub treeA : List ℕ
-treeA = oneLeaf (entry [] 1 ∷ entry (97 ∷ []) 7 ∷ entry (97 ∷ 98 ∷ []) 9 ∷ [])
+treeA = oneLeaf 3 (entry [] 1 ∷ entry (97 ∷ []) 7 ∷ entry (97 ∷ 98 ∷ []) 9 ∷ [])
 
 -- "Tree B: a root leaf whose one slot is a layer at "entrance", its leaf holding ".1"=4, ".2"=5; 840 bytes."
 unfoldable pub entrance : List ℕ
@@ -119,10 +119,10 @@ table =
     ∷ walking treeB Above entrance 0 [] (gives checkedB (pair (entrance ++ (46 ∷ 49 ∷ [])) 4 ∷ pair (entrance ++ (46 ∷ 50 ∷ [])) 5 ∷ []) none)
     ∷ walking treeB From [] 1 (entrance ++ (46 ∷ 49 ∷ [])) (gives checkedB (pair (entrance ++ (46 ∷ 49 ∷ [])) 4 ∷ []) none)
     ∷ walking treeB From [] 2 (entrance ++ (46 ∷ 49 ∷ [])) (gives checkedB [] none)
-    -- P9 leaf with "a", "a\0", above "a": "a\0". P10 dead "a", live "b", from "": b. P11 empty leaf, above "": none, 3 moves. P12
-    -- nine-byte cursor: 11; 02 [1]: "Example P12 becomes a 257-byte cursor".
-    ∷ walking (oneLeaf (entry (97 ∷ []) 1 ∷ entry (97 ∷ 0 ∷ []) 2 ∷ [])) Above (97 ∷ []) 0 [] (gives (accepts 1 2 0) (pair (97 ∷ 0 ∷ []) 2 ∷ []) none)
-    ∷ walking (oneLeaf (dead (97 ∷ []) 1 ∷ entry (98 ∷ []) 2 ∷ [])) From [] 0 [] (gives (accepts 1 2 0) (pair (98 ∷ []) 2 ∷ []) none)
-    ∷ walking (oneLeaf []) Above [] 0 [] (gives (accepts 1 0 0) [] (some 3))
+    -- P9 leaf with "a", "a\0", above "a": "a\0". P10 dead "a", live "b", from "": b; 02 [3]: "P10's image states 1". P11 empty leaf,
+    -- above "": none, 3 moves. P12 nine-byte cursor: 11; 02 [1]: "Example P12 becomes a 257-byte cursor".
+    ∷ walking (oneLeaf 2 (entry (97 ∷ []) 1 ∷ entry (97 ∷ 0 ∷ []) 2 ∷ [])) Above (97 ∷ []) 0 [] (gives (accepts 1 2 0) (pair (97 ∷ 0 ∷ []) 2 ∷ []) none)
+    ∷ walking (oneLeaf 1 (dead (97 ∷ []) 1 ∷ entry (98 ∷ []) 2 ∷ [])) From [] 0 [] (gives (accepts 1 2 0) (pair (98 ∷ []) 2 ∷ []) none)
+    ∷ walking (oneLeaf 0 []) Above [] 0 [] (gives (accepts 1 0 0) [] (some 3))
     ∷ walking treeA Above (replicate 257 97) 0 [] (record { checked = checkedA; number = 11; pairs = []; moves = none })
     ∷ []

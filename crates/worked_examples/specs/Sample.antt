@@ -50,6 +50,6 @@ unfoldable pub imageOf : List ℕ → ℕ → ℕ → List ℕ
 imageOf records root count =
     replicate 8 0 ++ records ++ leBytes 8 root ++ leBytes 8 count ++ leBytes 8 (length records + 40) ++ leBytes 8 1
 
--- An image of one leaf.
-unfoldable pub oneLeaf : List Entry → List ℕ
-oneLeaf es = imageOf (leafBytes es) 8 (length es)
+-- An image of one leaf, whose trailer states a count of keys.
+unfoldable pub oneLeaf : ℕ → List Entry → List ℕ
+oneLeaf count es = imageOf (leafBytes es) 8 count

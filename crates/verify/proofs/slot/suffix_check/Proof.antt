@@ -13,9 +13,15 @@ suffix-check-spec =
     tie.close
     (tie.spec
     (λ c. search tests)
-    (λ c. suffix-over _ _ _ (c .before .if1 .left) (omega arith))
-    (λ c. suffix-over _ _ _ (c .before .before .if1 .left) (omega arith))
+    (λ c.
+    let args = c .before .before .before .args in
+    suffix-over (args .at) (args .s) (args .live) (args .p) (c .before .if1 .left) (omega arith))
+    (λ c.
+    let args = c .before .before .before .before .args in
+    suffix-over (args .at) (args .s) (args .live) (args .p) (c .before .before .if1 .left) (omega arith))
     (search needs)
     (search needs)
     (search needs)
-    (λ c. suffix-before _ _ _ (c .before .before .before .if1 .left) (omega arith) _ (c .pass-suffix .ensures)))
+    (λ c.
+    let args = c .before .before .before .before .before .args in
+    suffix-before (args .at) (args .s) (args .live) (args .p) (c .before .before .before .if1 .left) (omega arith) _ (c .pass-value .ensures)))
