@@ -1,6 +1,6 @@
 -- All the rules for a subtree in one record, between the ends and from the place where the check reaches it, and what the
 -- check has come to behind it. The rule on links is said of what the subtree's last leaf names (`lastN`).
-use Rattle.base.specs.Kit.{true, List, _≡_, ap, ℕ, _+_, _%_, _≤_, arith, length}
+use Rattle.base.specs.Kit.{true, List, _≡_, ℕ, _+_, _%_, _≤_, arith, length}
 use Rattle.layering.specs.Tree.{Fields, LeafHead, Node, leaf, Kids, more, Slots, none, value, layer}
 use Rattle.layering.specs.Keys.{leavesN, leavesK, leavesS, valuesN, valuesK, valuesS, layersN, layersK, layersS, livesN, livesK, livesS}
 use Rattle.layering.specs.Accepted.{room, endN, endK, endS, InPostOrderN, InPostOrderK, InPostOrderS, ShortPathsN, ShortPathsK, ShortPathsS, AscendN, AscendK, AscendS, InRangeN, InRangeK, InRangeS, firstN, firstK, LinkedN, LinkedK, LinkedS, FieldsN, FieldsK, FieldsS}
