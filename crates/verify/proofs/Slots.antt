@@ -29,19 +29,23 @@ pub record SlotsOk (image : List ℕ) (depth at lo hi i n : ℕ) (p : Progress) 
   pub sound : SoundS image depth at lo hi p s
   pub order : 0 < n → inOrder image at i ≡ true
 
+-- behind a value slot
+abbrev passed : Fields → Progress → Progress
+passed s p = passValue (room s) (s .live) p
+
 -- A suffix lies at the place reached and ends before its leaf.
 unfoldable Suffixed : ℕ → Fields → Progress → Type 0
 Suffixed at s p = s .keylenx ≡ 64 → (s .start ≡ p .place) × (s .start + s .len ≤ at)
 
 suffix-runs : (at : ℕ) (s : Fields) (p : Progress)
-    → Runs (pick (eqb (s .keylenx) 64) (suffixC at s p) (passValue 0 (s .live) p)) (Suffixed at s p) (passValue (room s) (s .live) p)
+    → Runs (pick (eqb (s .keylenx) 64) (suffixC at s p) (passValue 0 (s .live) p)) (Suffixed at s p) (passed s p)
 unfolding Suffixed suffixC room pick
 suffix-runs at s p = go (eqb (s .keylenx) 64) refl
   where
-    go : (b : Bool) → eqb (s .keylenx) 64 ≡ b → Runs (pick b (suffixC at s p) (passValue 0 (s .live) p)) (Suffixed at s p) (passValue (room s) (s .live) p)
+    go : (b : Bool) → eqb (s .keylenx) 64 ≡ b → Runs (pick b (suffixC at s p) (passValue 0 (s .live) p)) (Suffixed at s p) (passed s p)
     go true e =
         runs-as (λ h q. h) (λ h. h (eqb-true _ _ e))
-        (runs-demand 2 (passValue (room s) (s .live) p) (says-and (says-eqb (s .start) (p .place)) (says-leb (s .start + s .len) at)))
+        (runs-demand 2 (passed s p) (says-and (says-eqb (s .start) (p .place)) (says-leb (s .start + s .len) at)))
     go false e = rw e (runs-as (λ h q. absurd (eqb-false _ _ e q)) (λ h. tt) (runs-here (passValue 0 (s .live) p)))
 
 -- the place behind it is before the trailer, as its leaf is
@@ -78,7 +82,7 @@ module _ (image : List ℕ) (sub : ℕ → Progress → Progress) (tree : ℕ �
       (runs-test 5 (says-self (listed depth (slot i))) (λ h. fitting))
 
   value-runs : (i : ℕ) (p : Progress) → slot i .keylenx < 128
-      → Runs (slotC sub image depth at lo hi i p) (Tested i (Suffixed at (slot i) p)) (passValue (room (slot i)) (slot i .live) p)
+      → Runs (slotC sub image depth at lo hi i p) (Tested i (Suffixed at (slot i) p)) (passed (slot i) p)
   unfolding slotC pick
   value-runs i p small = rw (lt-leb 128 (slot i .keylenx) small) (tested i (suffix-runs at (slot i) p))
 
@@ -129,9 +133,9 @@ module _ (image : List ℕ) (sub : ℕ → Progress → Progress) (tree : ℕ �
     value-more small =
         rw (lt-leb 128 (slot i .keylenx) small)
         (runs-to (after-value p (slot i) others) (runs-as to from
-        (runs-then (slotsC (i + 1) n) (value-runs i p small) (r .going) (λ h. rest (passValue (room (slot i)) (slot i .live) p) (ready (h .part))))))
+        (runs-then (slotsC (i + 1) n) (value-runs i p small) (r .going) (λ h. rest (passed (slot i) p) (ready (h .part))))))
       where
-        ready : Suffixed at (slot i) p → Underway image (passValue (room (slot i)) (slot i .live) p)
+        ready : Suffixed at (slot i) p → Underway image (passed (slot i) p)
         ready h = record {
           going = r .going;
           aligned = omega (arith, r .aligned, room-aligned (slot i));
@@ -139,7 +143,7 @@ module _ (image : List ℕ) (sub : ℕ → Progress → Progress) (tree : ℕ �
         }
 
         Parts : Type 0
-        Parts = Tested i (Suffixed at (slot i) p) × Sound (i + 1) n (passValue (room (slot i)) (slot i .live) p) others
+        Parts = Tested i (Suffixed at (slot i) p) × Sound (i + 1) n (passed (slot i) p) others
 
         to : Parts → Sound i (suc n) p (value (slot i) others)
         to (t, s) =

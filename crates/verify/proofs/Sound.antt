@@ -5,7 +5,7 @@ use Rattle.layering.specs.Tree.{Fields, LeafHead, Node, leaf, Kids, more, Slots
 use Rattle.layering.specs.Keys.{leavesN, leavesK, leavesS, valuesN, valuesK, valuesS, layersN, layersK, layersS, livesN, livesK, livesS}
 use Rattle.layering.specs.Accepted.{room, endN, endK, endS, InPostOrderN, InPostOrderK, InPostOrderS, ShortPathsN, ShortPathsK, ShortPathsS, AscendN, AscendK, AscendS, InRangeN, InRangeK, InRangeS, firstN, firstK, LinkedN, LinkedK, LinkedS, FieldsN, FieldsK, FieldsS}
 use Rattle.verify.specs.Types.{Counts, Progress}
-use Rattle.verify.specs.Check.{passValue, passLeaf, enterLayer, leaveLayer}
+use Rattle.verify.specs.Check.{withPlace, withChain, withCounts, passValue, passLeaf, enterLayer, leaveLayer}
 use Rattle.verify.proofs.Going.{Runs}
 use Rattle.verify.proofs.Places.{lastN, lastK, Within, alignedN}
 
@@ -16,48 +16,27 @@ added c leaves values layers =
 
 unfoldable pub afterN : Progress → Node → Progress
 afterN p n =
-    record {
-      fault = p .fault;
-      place = endN (p .place) n;
-      chained = true;
-      next = lastN n;
-      counts = added (p .counts) (leavesN n) (valuesN n) (layersN n);
-      «live_slots» = p .«live_slots» + livesN n;
-    }
+    withPlace (endN (p .place) n)
+    (withChain true (lastN n) (withCounts (added (p .counts) (leavesN n) (valuesN n) (layersN n)) (p .«live_slots» + livesN n) p))
 
 unfoldable pub afterK : Progress → Kids → Progress
 afterK p k =
-    record {
-      fault = p .fault;
-      place = endK (p .place) k;
-      chained = true;
-      next = lastK k;
-      counts = added (p .counts) (leavesK k) (valuesK k) (layersK k);
-      «live_slots» = p .«live_slots» + livesK k;
-    }
+    withPlace (endK (p .place) k)
+    (withChain true (lastK k) (withCounts (added (p .counts) (leavesK k) (valuesK k) (layersK k)) (p .«live_slots» + livesK k) p))
 
 unfoldable pub afterS : Progress → Slots → Progress
 afterS p s =
-    record {
-      fault = p .fault;
-      place = endS (p .place) s;
-      chained = p .chained;
-      next = p .next;
-      counts = added (p .counts) (leavesS s) (valuesS s) (layersS s);
-      «live_slots» = p .«live_slots» + livesS s;
-    }
+    withPlace (endS (p .place) s)
+    (withCounts (added (p .counts) (leavesS s) (valuesS s) (layersS s)) (p .«live_slots» + livesS s) p)
 
 -- counts that agree in each number
-abbrev counted : Progress → Counts → ℕ → Progress
-counted p c l = record { fault = p .fault; place = p .place; chained = p .chained; next = p .next; counts = c; «live_slots» = l }
-
 pub same-counts : {a a′ b b′ c c′ : ℕ} → a ≡ a′ → b ≡ b′ → c ≡ c′
     → _≡_ {A = Counts} (record { leaves = a; «value_slots» = b; «sub_layers» = c })
     (record { leaves = a′; «value_slots» = b′; «sub_layers» = c′ })
 same-counts e f g = cc
 
 recount : (p q : Progress) → q .counts .leaves ≡ p .counts .leaves → q .counts .«value_slots» ≡ p .counts .«value_slots»
-    → q .counts .«sub_layers» ≡ p .counts .«sub_layers» → q .«live_slots» ≡ p .«live_slots» → counted p (q .counts) (q .«live_slots») ≡ p
+    → q .counts .«sub_layers» ≡ p .counts .«sub_layers» → q .«live_slots» ≡ p .«live_slots» → withCounts (q .counts) (q .«live_slots») p ≡ p
 recount p q e f g h = rw (same-counts e f g, h)
 
 -- One part after another comes to both.

@@ -23,7 +23,7 @@ checkCounts (Declined n) = record { leaves = 0; «value_slots» = 0; «sub_layer
 unfoldable pub accepted : Counts → Checked
 accepted c = Accepted (c .leaves) (c .«value_slots») (c .«sub_layers»)
 
--- GOING ON. Nothing is counted yet, and no leaf was met.
+-- PROGRESS where nothing is counted yet and no leaf was met; and with another place, another chain of leaves, other counts.
 abbrev pub uncounted : ℕ → ℕ → Progress
 uncounted fault place =
     record {
@@ -35,7 +35,19 @@ uncounted fault place =
       «live_slots» = 0;
     }
 
--- Nothing is looked at behind a fault.
+abbrev pub withPlace : ℕ → Progress → Progress
+withPlace place p =
+    record { fault = p .fault; place = place; chained = p .chained; next = p .next; counts = p .counts; «live_slots» = p .«live_slots» }
+
+abbrev pub withChain : Bool → ℕ → Progress → Progress
+withChain chained next p =
+    record { fault = p .fault; place = p .place; chained = chained; next = next; counts = p .counts; «live_slots» = p .«live_slots» }
+
+abbrev pub withCounts : Counts → ℕ → Progress → Progress
+withCounts counts live p =
+    record { fault = p .fault; place = p .place; chained = p .chained; next = p .next; counts = counts; «live_slots» = live }
+
+-- GOING ON. Nothing is looked at behind a fault.
 abbrev pub stop : ℕ → Progress
 stop n = uncounted n 0
 
@@ -51,59 +63,31 @@ each f i (suc n) p = andThen (f i p) (each f (i + 1) n)
 unfoldable pub demand : ℕ → Bool → Progress → Progress
 demand n test p = pick test p (stop n)
 
--- What a part of the tree adds to the progress: a value slot whose suffix takes so many bytes, live or dead.
+-- What a part of the tree adds to the progress: a value slot, live or dead, whose suffix takes so many bytes.
 abbrev pub passValue : ℕ → Bool → Progress → Progress
-passValue bytes live p = record {
-  fault = p .fault;
-  place = p .place + bytes;
-  chained = p .chained;
-  next = p .next;
-  counts = record { leaves = p .counts .leaves; «value_slots» = p .counts .«value_slots» + 1; «sub_layers» = p .counts .«sub_layers» };
-  «live_slots» = p .«live_slots» + pick live 1 0;
-}
+passValue bytes live p =
+    let c = p .counts in
+    let counts : Counts = record { leaves = c .leaves; «value_slots» = c .«value_slots» + 1; «sub_layers» = c .«sub_layers» } in
+    withPlace (p .place + bytes) (withCounts counts (p .«live_slots» + pick live 1 0) p)
 
 unfoldable pub passLeaf : ℕ → Progress → Progress
-passLeaf next p = record {
-  fault = p .fault;
-  place = p .place + 400;
-  chained = true;
-  next = next;
-  counts = record { leaves = p .counts .leaves + 1; «value_slots» = p .counts .«value_slots»; «sub_layers» = p .counts .«sub_layers» };
-  «live_slots» = p .«live_slots»;
-}
+passLeaf next p =
+    let c = p .counts in
+    let counts : Counts = record { leaves = c .leaves + 1; «value_slots» = c .«value_slots»; «sub_layers» = c .«sub_layers» } in
+    withPlace (p .place + 400) (withChain true next (withCounts counts (p .«live_slots») p))
 
 unfoldable pub passInternode : Progress → Progress
-passInternode p =
-    record {
-      fault = p .fault;
-      place = p .place + 256;
-      chained = p .chained;
-      next = p .next;
-      counts = p .counts;
-      «live_slots» = p .«live_slots»;
-    }
+passInternode p = withPlace (p .place + 256) p
 
 -- A sub-layer has a chain of leaves of its own; behind it that of the layer above goes on.
 abbrev pub enterLayer : Progress → Progress
-enterLayer p = record {
-  fault = p .fault;
-  place = p .place;
-  chained = false;
-  next = 0;
-  counts = record { leaves = p .counts .leaves; «value_slots» = p .counts .«value_slots»; «sub_layers» = p .counts .«sub_layers» + 1 };
-  «live_slots» = p .«live_slots»;
-}
+enterLayer p =
+    let c = p .counts in
+    let counts : Counts = record { leaves = c .leaves; «value_slots» = c .«value_slots»; «sub_layers» = c .«sub_layers» + 1 } in
+    withChain false 0 (withCounts counts (p .«live_slots») p)
 
 unfoldable pub leaveLayer : Progress → Progress → Progress
-leaveLayer above p =
-    record {
-      fault = p .fault;
-      place = p .place;
-      chained = above .chained;
-      next = above .next;
-      counts = p .counts;
-      «live_slots» = p .«live_slots»;
-    }
+leaveLayer above p = withChain (above .chained) (above .next) p
 
 -- RECORDS. "On reaching a record 3: offset not a multiple of 8, below the place reached, or record running into the
 -- trailer": a record of `size` bytes at `at`.

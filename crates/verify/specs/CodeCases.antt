@@ -7,7 +7,7 @@ use Rattle.node.specs.Permuter.{slotAt}
 use Rattle.node.specs.Layout.{versionAt, permutationAt, ikeyAt, keylenxAt, liveAt, valueAt, suffixAt, nextAt, nkeysAt}
 use Rattle.verify.specs.Types.{Slot, Suffix, Progress, RecordCheck, Leaf, Internode, RecordCheckFault as Fault, SlotCheck, Layer, Passed, SlotCheckFault as SlotFault}
 use Rattle.layering.specs.Tree.{Fields}
-use Rattle.verify.specs.Check.{stop, andThen, demand, passValue, passLeaf, enterLayer, leaveLayer, reachable, expected, permutes, separatorsFrom, listed, fits, inOrder, inRange, layerC}
+use Rattle.verify.specs.Check.{withPlace, stop, andThen, demand, passValue, passLeaf, enterLayer, leaveLayer, reachable, expected, permutes, separatorsFrom, listed, fits, inOrder, inRange, layerC}
 
 -- A record that was reached: what its leaf or its children come to, or the fault.
 unfoldable pub afterRecord : RecordCheck → Progress → Progress → Progress
@@ -80,8 +80,7 @@ pub record Opened (image : List ℕ) (at permutation : ℕ) : Type 0 where
 -- ENDS of a record of `size` bytes, of a leaf, and of a layer: "After a record's parts 3"; "After a layer 9".
 unfoldable pub recordEnd : ℕ → ℕ → Progress → Progress
 recordEnd at size q =
-    demand 3 (eqb at (q .place))
-    (record { fault = q .fault; place = q .place + size; chained = q .chained; next = q .next; counts = q .counts; «live_slots» = q .«live_slots» })
+    demand 3 (eqb at (q .place)) (withPlace (q .place + size) q)
 
 unfoldable pub leafEnd : List ℕ → ℕ → Progress → Progress
 leafEnd image at q = demand 3 (eqb at (q .place)) (passLeaf (nextAt image at) q)
