@@ -102,7 +102,9 @@ module _ (image : List ℕ) (sized : Sized image) (depth at : ℕ) (inside : at 
       pick-ind T _ (λ t e. omega arith) (λ f. pick-ind T _ (λ t e. omega arith) (λ fitting. pick-ind T _ (λ t e. omega arith)
       (λ f. pick-ind T _ (λ big. layer-kind depth _ (leb-true 128 _ big) (not-false _ fitting))
       (λ f. pick-ind T _ (λ t. suffix-told _ _ a p b)
-      (λ f. record { within = omega (arith, b .within); counted = omega (arith, b .counted); lively = omega (arith, b .lively, one-at-most (liveAt image at (slotAt (permutationAt image at) (record { 0 = i })))) })))))
+      (λ f.
+      let live = liveAt image at (slotAt (permutationAt image at) (record { 0 = i })) in
+      record { within = omega (arith, b .within); counted = omega (arith, b .counted); lively = omega (arith, b .lively, one-at-most live) })))))
 
   pub slot-adds : (sub : ℕ → Progress → Progress) → ((root : ℕ) → Adds 0 (sub root)) → (i : ℕ) → Adds 1 (slotC sub image depth at lo hi i)
   unfolding afterSlot SlotTold leaveLayer
@@ -117,8 +119,8 @@ module _ (image : List ℕ) (sized : Sized image) (depth at : ℕ) (inside : at 
 
 -- RECORDS' ENDS: a record starts at the place reached, and lies before the trailer.
 end-kept : {image : List ℕ} → Sized image → (a at size : ℕ) (q r : Progress) → r .place ≡ q .place + size → at + size + 32 ≤ length image
-    → r .counts .leaves + r .counts .«value_slots» + r .counts .«sub_layers» ≤ q .place + size + a → r .«live_slots» ≤ r .counts .«value_slots»
-    → Kept a (demand 3 (eqb at (q .place)) r)
+    → r .counts .leaves + r .counts .«value_slots» + r .counts .«sub_layers» ≤ q .place + size + a
+    → r .«live_slots» ≤ r .counts .«value_slots» → Kept a (demand 3 (eqb at (q .place)) r)
 end-kept sized a at size q r e h c l =
     demand-kept a 3 (eqb at (q .place)) r
     (λ t f. let g : at ≡ q .place = eqb-true _ _ t in record { within = omega (arith, sized .short); counted = omega arith; lively = l })
