@@ -9,7 +9,7 @@
 
 /* crates/bench_loops: the keys of a walk over the whole image, by the step by value (0) or lent (1), and by the tally's loop. */
 uint64_t timed_walk(const uint8_t *image, size_t image_len, uint8_t form);
-uint64_t timed_count(const uint8_t *image, size_t image_len);
+uint64_t timed_count(const uint8_t *image, size_t image_len, uint8_t kind, const uint8_t *bound, size_t bound_len);
 
 static uint64_t sum;
 static volatile uint64_t kept;
@@ -37,20 +37,18 @@ static uint64_t lent(const uint8_t *image, size_t len)
     return timed_walk(image, len, 1);
 }
 
-/* A call from C for each key, which reads the key's last byte. */
+/* A call from C for each key. */
 static uint64_t pb_steps(const uint8_t *image, size_t len)
 {
     const uint8_t none[1] = {0};
-    pb_walk w;
-    uint64_t keys = 0, out[4];
-    if (pb_place_above(image, len, none, 0, PB_UNBOUNDED, none, 0, w.numbers, PB_NUMBERS, w.buf, PB_BUFFER, w.bound, PB_BUFFER) != 0) {
-        return 0;
-    }
-    while (pb_step(w.numbers, PB_NUMBERS, w.buf, PB_BUFFER, w.bound, PB_BUFFER, image, len, out, 4) == 0 && out[0] == 1) {
-        keys++;
-        sum += out[2] + out[1] + (out[1] != 0 ? w.buf[out[1] - 1] : 0);
-    }
-    return keys;
+    return stepped(image, len, PB_UNBOUNDED, none, 0, &sum);
+}
+
+/* The tally's loop. */
+static uint64_t count(const uint8_t *image, size_t len)
+{
+    const uint8_t none[1] = {0};
+    return timed_count(image, len, PB_UNBOUNDED, none, 0);
 }
 
 /* A plain read: the sum of the image's 64-bit words. */
@@ -67,7 +65,7 @@ static uint64_t plain(const uint8_t *image, size_t len)
 static const struct form {
     const char *name;
     uint64_t (*run)(const uint8_t *image, size_t len);
-} forms[] = {{"count", timed_count}, {"tally", tally}, {"check", check}, {"step", step}, {"lent", lent}, {"pb_step", pb_steps}, {"plain", plain}};
+} forms[] = {{"count", count}, {"tally", tally}, {"check", check}, {"step", step}, {"lent", lent}, {"pb_step", pb_steps}, {"plain", plain}};
 
 enum { FORMS = sizeof forms / sizeof forms[0] };
 

@@ -1,4 +1,4 @@
-/* What bench.c and pages.c share: the clock, and an image read from a file. */
+/* What the programs here share: the clock, an image read from a file, and a walk by steps. */
 #ifndef BENCH_COMMON_H
 #define BENCH_COMMON_H
 
@@ -42,6 +42,23 @@ static inline uint8_t *read_image(const char *name, size_t *len)
     *len = bytes ? fread(bytes, 1, (size_t)1 << 24, f) : 0;
     fclose(f);
     return bytes;
+}
+
+/* The keys of a walk above the empty name, with a call from C for each; value, key length and last byte of every key are added to the
+ * sum, with wrap. */
+static inline uint64_t stepped(const uint8_t *image, size_t len, uint8_t kind, const uint8_t *bound, size_t bound_len, uint64_t *sum)
+{
+    const uint8_t none[1] = {0};
+    pb_walk w;
+    uint64_t keys = 0, out[4];
+    if (pb_place_above(image, len, none, 0, kind, bound, bound_len, w.numbers, PB_NUMBERS, w.buf, PB_BUFFER, w.bound, PB_BUFFER) != 0) {
+        return 0;
+    }
+    while (pb_step(w.numbers, PB_NUMBERS, w.buf, PB_BUFFER, w.bound, PB_BUFFER, image, len, out, 4) == 0 && out[0] == 1) {
+        keys++;
+        *sum += out[2] + out[1] + (out[1] != 0 ? w.buf[out[1] - 1] : 0);
+    }
+    return keys;
 }
 
 #endif

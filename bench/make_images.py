@@ -1,8 +1,11 @@
 #!/usr/bin/env python3
-"""Makes the images that bench/run times, those that are not there yet, and prints their names: bench/make_images.py FOLDER [pages | stack]
+"""Makes the images that bench/run times, those that are not there yet, and prints their names:
+    bench/make_images.py FOLDER [pages | stack | bound | rows]
 
 Keys are random bytes, the same ones each time. Leaves are full, no slot is dead, and internodes have sixteen children. With `pages` the
-images are those for pages, whose names have 200 bytes; with `stack` the deepest that can be accepted, and one of short keys.
+images are those for pages, whose names have 200 bytes; with `stack` the deepest that can be accepted, and one of short keys. With `bound`
+a line has an image's name and its last key in hex; with `rows` the files are names of one length in ascending order, and a line has the
+file's name, the length, and in hex the name that three of four do not come after.
 """
 import os
 import random
@@ -75,19 +78,58 @@ def deepest():
 STACK = {"deepest": None, "short": IMAGES["short"]}
 
 
+def sharing(r, n, shared, low, high):
+    """Names that begin with the same bytes, and go on with so many more."""
+    front = r.randbytes(shared)
+    return (front + tail for tail in drawn(r, n, low, high))
+
+
+# names that share their first thirty bytes, and two shapes that the first table has
+BOUND = {
+    "thirty": lambda r: sharing(r, 30_000, 30, 1, 16),
+    "suffix": IMAGES["suffix"],
+    "short": IMAGES["short"],
+}
+
+# by the bytes shared and the bytes in all
+ROWS = [(30, 31), (30, 32), (30, 40), (200, 208), (0, 40), (0, 8), (0, 4)]
+
+
+def rows(folder):
+    for shared, width in ROWS:
+        name = f"{shared}-of-{width}"
+        names = sorted(sharing(random.Random(name), 1_000, shared, width - shared, width - shared))
+        with open(os.path.join(folder, name + ".rows"), "wb") as f:
+            f.write(b"".join(names))
+        print(name, width, names[750].hex())
+
+
+def image_of(path, name, keys):
+    """An image of the keys that are drawn for its name, written where it is not there yet; the keys and their values."""
+    r = random.Random(name)
+    pairs = {key: r.randrange(1 << 64) for key in keys(r)} if keys else {}
+    if not os.path.exists(path):
+        image = build(tree_of(pairs) if keys else deepest())
+        with open(path + ".part", "wb") as f:
+            f.write(image)
+        os.rename(path + ".part", path)
+    return pairs
+
+
 def main():
-    which = {(): IMAGES, ("pages",): PAGES, ("stack",): STACK}.get(tuple(sys.argv[2:]))
+    if sys.argv[2:] == ["rows"]:
+        return rows(sys.argv[1])
+    which = {(): IMAGES, ("pages",): PAGES, ("stack",): STACK, ("bound",): BOUND}.get(tuple(sys.argv[2:]))
     if len(sys.argv) < 2 or which is None:
         sys.exit(__doc__)
     for name, keys in which.items():
         path = os.path.join(sys.argv[1], name + ".img")
-        if not os.path.exists(path):
-            r = random.Random(name)
-            image = build(tree_of({key: r.randrange(1 << 64) for key in keys(r)}) if keys else deepest())
-            with open(path + ".part", "wb") as f:
-                f.write(image)
-            os.rename(path + ".part", path)
-        print(name)
+        if which is BOUND:
+            print(name, max(image_of(path, name, keys)).hex())
+        else:
+            if not os.path.exists(path):
+                image_of(path, name, keys)
+            print(name)
 
 
 if __name__ == "__main__":

@@ -1,6 +1,7 @@
 -- What the timed loops count, over any bytes.
-use Rattle.base.specs.Kit.{not, List, [], ℕ, zero, suc, eqb, length}
+use Rattle.base.specs.Kit.{not, List, [], ℕ, zero, suc, _+_, eqb, length, take, drop}
 use Rattle.base.specs.Pick.{pick}
+use Rattle.cursor.specs.RangeBound.{contains}
 use Rattle.cursor.specs.declared.range_bound.StartMode.the-variants.{Above}
 use Rattle.walk.specs.Walk.{keysOf}
 use Rattle.walk.specs.Placing.{place}
@@ -26,3 +27,9 @@ unfoldable pub keysAbove : List ℕ → ℕ
 keysAbove image =
     let p = place image Above [] 0 [] in
     pick (not (eqb (p .code) 0)) 0 (keysFrom (length image) (p .walk) image)
+
+-- How many of the first n names the bound admits, each a row of so many bytes.
+unfoldable pub rowsWithin : ℕ → ℕ → ℕ → List ℕ → List ℕ → ℕ
+rowsWithin zero width kind bound names = 0
+rowsWithin (suc n) width kind bound names =
+    pick (contains kind bound (take width names)) 1 0 + rowsWithin n width kind bound (drop width names)

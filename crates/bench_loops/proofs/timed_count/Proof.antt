@@ -7,6 +7,7 @@ pub timed-count-spec : {M : Type 1} → statement M
 timed-count-spec =
     tie.close
     (tie.spec
-    (λ c κs. search needs)
-    (λ c κs. search needs)
-    (λ c. c .count-keys .ensures ∙ (rw (c .before .place-all .ensures))))
+    (search needs)
+    (search needs)
+    (search needs)
+    (λ c. c .count-keys .ensures ∙ (rw (c .before .place .ensures))))
