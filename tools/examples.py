@@ -1,22 +1,22 @@
 #!/usr/bin/env python3
-"""Writes the requests that crates/walk_table runs, from document 01's surveyed examples and 02's short form, those of crates/records, from
-02 [1] and of the C interface, and those of crates/sheet_table, whose answers are whole sheets.
+"""Writes the requests that crates/walk_table runs, from document 01's surveyed examples, 02's short form and its bound test, those of
+crates/records, from 02 [1] and of the C interface, and those of crates/sheet_table, whose answers are whole sheets.
 
     tools/examples.py > crates/walk_table/stdin
     tools/examples.py records > crates/records/stdin
     tools/examples.py sheets > crates/sheet_table/stdin
 
 A request is a name, a form, the arguments of a placing and an image; for crates/records also what is altered of the walk's record.
-The answers are written by hand in crates/walk_table/stdout and crates/records/stdout: keys, values and numbers from 01's and 02's
+The answers are written by hand in the stdout beside each: keys, values and numbers from 01's and 02's
 words, the samples' keys counted in tools/images.py; moves where 01 gives them, and for 02 one Start for each layer, then as 01
-counts. Nothing here works them out.
+counts; comparisons counted from 02's words. Nothing here works them out.
 """
 import sys
 
 from images import COUNT, EDITION, IDENTITY, LENGTH, ROOT, SAMPLES
 from images import changed, in_leaf, layers, nested, one_dead, suffixed, trailer, tree_a, tree_b, two_leaves
 from layout import Leaf, Slot, build, ikey
-from requests import ABOVE, CHECK, EXCLUDED, FOREIGN, FROM, INCLUDED, LENT, MOVES, SHORT, TOTAL, request
+from requests import ABOVE, BOUND, CHECK, EXCLUDED, FOREIGN, FROM, INCLUDED, LENT, MOVES, SHORT, TOTAL, UNBOUNDED, request
 
 
 def surveyed():
@@ -225,6 +225,53 @@ def sheets():
     request("no-bytes", b"", FROM)
 
 
+def bounds():
+    """02 [4]: "one for each eight and each single byte through the first that differs". A key, and the bound's."""
+
+    def test(name, key, bound, kind):
+        request(name, b"", ABOVE, key, kind=kind, bound=bound, form=BOUND)
+
+    def both(name, key, bound):
+        """The two one way round, and the other."""
+        test(name, key, bound, INCLUDED)
+        test(name + "-turned", bound, key, INCLUDED)
+
+    def equal(name, key):
+        """The bound's own key, included and excluded."""
+        test(name, key, key, INCLUDED)
+        test(name + "-excluded", key, key, EXCLUDED)
+
+    a = b"a"
+    both("30-equal-then-x-y", a * 30 + b"x", a * 30 + b"y")
+    both("30-equal-then-xz-yz", a * 30 + b"xz", a * 30 + b"yz")
+    both("12-beside-16", a * 12, a * 16)
+    both("255-beside-256", a * 255, a * 256)
+    both("8-beside-9", a * 8, a * 9)
+    both("none-beside-one", b"", a)
+    both("none-beside-256", b"", a * 256)
+    equal("256-equal", a * 256)
+    equal("255-equal", a * 255)
+    equal("8-equal", a * 8)
+    equal("1-equal", a)
+    equal("none-equal", b"")
+    both("first-of-40-differs", b"a" + a * 39, b"b" + a * 39)
+    both("first-of-7-differs", b"a" + a * 6, b"b" + a * 6)
+    both("first-of-1-differs", b"a", b"b")
+    both("last-of-8-differs", a * 7 + b"a", a * 7 + b"b")
+    both("last-of-9-differs", a * 8 + b"a", a * 8 + b"b")
+    both("last-of-16-differs", a * 15 + b"a", a * 15 + b"b")
+    both("last-of-256-differs", a * 255 + b"a", a * 255 + b"b")
+    both("00-to-ff-beside-ff-to-00", bytes(7) + b"\xff", b"\xff" + bytes(7))
+    both("two-differ-in-8", b"ab" + a * 6, b"ba" + a * 6)
+    both("7f-beside-80", b"\x7f", b"\x80")
+    both("7f-beside-80-in-8", b"\x7f" * 8, b"\x80" + bytes(7))
+    both("zero-byte-more", a * 3, a * 3 + b"\0")
+    test("unbounded", b"b" * 256, a * 256, UNBOUNDED)
+    test("unbounded-equal", a * 256, a * 256, UNBOUNDED)
+    test("excluded-below", a * 30 + b"x", a * 30 + b"y", EXCLUDED)
+    test("excluded-above", a * 30 + b"y", a * 30 + b"x", EXCLUDED)
+
+
 def main():
     if sys.argv[1:] == []:
         surveyed()
@@ -232,6 +279,7 @@ def main():
         short_form()
         stepping()
         whole()
+        bounds()
     elif sys.argv[1:] == ["records"]:
         whole_names()
         whole_names_any_image()

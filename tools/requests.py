@@ -3,9 +3,9 @@ import struct
 import sys
 
 # Forms: every answer; all moves too; before each step one over a shorter image; the check first, and only the number of keys; the
-# check alone; every step with the walk after it (for tests/differential); all moves too, by the lent form of the step. Then start
-# modes, which every request names (SHORT is the form without one), and kinds of bound.
-KEYS, MOVES, FOREIGN, TOTAL, CHECK, STATES, LENT = range(7)
+# check alone; every step with the walk after it (for tests/differential); all moves too, by the lent form of the step; the bound test of
+# the key in the cursor's place. Then start modes, which every request names (SHORT is the form without one), and kinds of bound.
+KEYS, MOVES, FOREIGN, TOTAL, CHECK, STATES, LENT, BOUND = range(8)
 ABOVE, FROM, SHORT = range(3)
 UNBOUNDED, INCLUDED, EXCLUDED = range(3)
 

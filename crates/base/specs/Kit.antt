@@ -5,7 +5,7 @@ pub use mathlib.Core.Logic.{_⊎_, inl, inr, ⊎-elim}
 pub use mathlib.Core.List.{List, [], _++_, _∷_, append-assoc, append-nil, map}
 pub use mathlib.Core.Option.{Option, none, some}
 pub use Prim.Native.Nat.{_%_, _*_, _+_, _-_, _/_, _<_, _^_, _≤_, max, min, suc, zero, ℕ}
-pub use native.Mathlib.Nat.{add-zero, div-add-mod', div-eq-of-lt, div-le-self, div-mul-le-self, div-one, div-zero, eq-or-lt-of-le, le-refl, mod-eq-of-lt, mod-one, mul-add-div-right, mul-assoc, mul-le-mul-right, one-le-pow, one-mul, pow-le-pow-right, pow-suc, pow-succ', pow-zero, sub-zero, suc-add, suc-mul, suc-sub-suc, zero-add, zero-min, zero-sub}
+pub use native.Mathlib.Nat.{add-zero, div-add-mod', div-eq-of-lt, div-le-self, div-mul-le-self, div-one, div-zero, eq-or-lt-of-le, le-refl, mod-eq-of-lt, mod-one, mul-add-div-right, mul-assoc, mul-le-mul-right, mul-suc, mul-zero, one-le-pow, one-mul, pow-le-pow-right, pow-suc, pow-succ', pow-zero, sub-zero, suc-add, suc-mul, suc-sub-suc, zero-add, zero-min, zero-sub}
 pub use native.Mathlib.Numerals.{add-one, sub-one}
 pub use native.Mathlib.Omega.{arith}
 pub use lib.Arith.{mod-mul}

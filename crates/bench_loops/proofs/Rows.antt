@@ -1,6 +1,5 @@
 -- The loop over rows of names: its invariant, and what a turn says of it.
 use Rattle.base.specs.Kit.{_≡_, ap, Bool, List, ℕ, _+_, _-_, _*_, _/_, _≤_, _<_, suc-mul, div-mul-le-self, div-zero, sub-zero, zero-add, arith, length, drop, drop-drop, boolByte}
-use Rattle.base.specs.Pick.{pick}
 use Rattle.base.proofs.Choice.{one-by-test, one-at-most}
 use Rattle.base.proofs.Count.{left-more}
 use Rattle.key.specs.Part.{part}
@@ -33,10 +32,13 @@ module _ (width kind : ℕ) (bound names : List ℕ) where
     unfolding rowsWithin part
     counts-on r e =
         let more : rowsWithin (rows - row) width kind bound (drop at names)
-                ≡ boolByte r + rowsWithin (rows - (row + 1)) width kind bound (drop (at + width) names) =
-            rw (left-more rows row h, drop-drop, ← e, one-by-test r) in
-        (omega arith, omega (arith, one-by-test r, one-at-most r), omega (arith, inv .2, taken),
-        omega (arith, inv .3, more))
+        ≡ boolByte r + rowsWithin (rows - (row + 1)) width kind bound (drop (at + width) names) =
+        rw (left-more rows row h, drop-drop, ← e, one-by-test r) in (
+          omega arith,
+          omega (arith, one-by-test r, one-at-most r),
+          omega (arith, inv .2, taken),
+          omega (arith, inv .3, more),
+        )
 
   -- no row is left
   pub all-counted : (rows count row at : ℕ) → Rows rows count row at → rows ≤ row → count ≡ rowsWithin rows width kind bound names

@@ -1,2 +1,3 @@
 -- Laws of the cursor that callers cite.
 pub mod Past
+pub mod Bound

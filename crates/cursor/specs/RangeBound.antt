@@ -1,21 +1,37 @@
 -- The bound (01: "bound kind 0 unbounded, 1 included, 2 excluded"; module 2: "`contains`, plain byte order").
 use Rattle.base.specs.Kit.{Bool, true, false, List, ℕ, eqb, length, replicate}
 use Rattle.base.specs.Pick.{pick}
-use Rattle.key.specs.Order.{byteOrder}
+use Rattle.key.specs.Comparisons.{compared}
 use Rattle.key.specs.Part.{padded}
 use Rattle.key.specs.declared.Ordering.{Ordering}
 use Rattle.key.specs.declared.Ordering.the-variants.{Less, Equal, Greater}
 use Rattle.cursor.specs.declared.range_bound.RangeBound.{RangeBound}
+use Rattle.cursor.specs.declared.range_bound.Side.{Side}
+use Rattle.cursor.specs.declared.range_bound.Side.the-variants.{Inside, Past}
+use Rattle.cursor.specs.declared.range_bound.Tested.{Tested}
 
--- What a kind makes of a key's order to the bound's key: below it is within, the bound's own key where it is included.
-unfoldable pub admits : ℕ → Ordering → Bool
-admits kind Less = true
-admits kind Equal = eqb kind 1
-admits kind Greater = false
+-- The side on which a bound of kind 1 or 2 has a key, by the key's order to the bound's: below it inside, and the bound's own key where
+-- it is included.
+unfoldable pub sideOf : ℕ → Ordering → Side
+sideOf kind Less = Inside
+sideOf kind Equal = pick (eqb kind 1) Inside Past
+sideOf kind Greater = Past
+
+-- The bound test (02 [4]: "Its answer is proved to be plain byte order's, and it returns its comparisons too"): a key compared with the
+-- bound's by eights, and nothing where there is no bound.
+unfoldable pub tested : ℕ → List ℕ → List ℕ → Tested
+tested kind bound key =
+    let c = compared key bound in
+    pick (eqb kind 0) (record { side = Inside; comparisons = 0 }) (record { side = sideOf kind (c .order); comparisons = c .comparisons })
+
+-- The sides that a walk hands out.
+unfoldable pub isWithin : Side → Bool
+isWithin Inside = true
+isWithin Past = false
 
 -- Whether a key lies within a bound.
 unfoldable pub contains : ℕ → List ℕ → List ℕ → Bool
-contains kind bound key = pick (eqb kind 0) true (admits kind (byteOrder key bound))
+contains kind bound key = isWithin (tested kind bound key .side)
 
 -- The bound that a placing keeps ("13: bound key over 256 bytes, for kind 0 too, whose bound is then kept as length 0";
 -- "Buffers are zero past what they hold").

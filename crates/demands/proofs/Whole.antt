@@ -10,7 +10,7 @@ use Rattle.key.proofs.Ikey.{padded-take}
 use Rattle.node.specs.Layout.{statedLength, edition}
 use Rattle.node.specs.Heading.{headingFault, lengthOk}
 use Rattle.cursor.specs.CursorKey.{fromSlice}
-use Rattle.cursor.specs.RangeBound.{contains, boundOf}
+use Rattle.cursor.specs.RangeBound.{isWithin, tested, contains, boundOf}
 use Rattle.demands.specs.Types.{RangeBound, StartMode, Above, From, WalkState, Placed}
 use Rattle.layering.specs.Tree.{treeOf}
 use Rattle.layering.specs.Keys.{livePairs, leavesN, valuesN, layersN}
@@ -94,7 +94,7 @@ module _ (kind : ℕ) (bound : List ℕ) where
   bound-length h = pick-ind (λ (b : RangeBound). b .len ≤ 256) (eqb kind 0) (λ t. omega arith) (λ t. h)
 
   bound-admits : admitted (boundOf kind bound) ≡ contains kind bound
-  unfolding boundOf contains pick
+  unfolding boundOf contains tested isWithin pick
   bound-admits = go (eqb kind 0) refl
     where
       go : (c : Bool) → eqb kind 0 ≡ c

@@ -1,13 +1,13 @@
 -- Laws of the ikey. `split` says what the first n bytes, as a number, tell of the byte order of two strings; `rank`
 -- puts ikey and length into one number, so that comparing (ikey, length) is byte order by plain arithmetic. And
 -- `be` and `digits` are inverse to one another.
-use Rattle.base.specs.Kit.{_≡_, refl, ap, sym, _∙_, List, [], _∷_, _++_, ℕ, zero, suc, _+_, _*_, _/_, _%_, _^_, _-_, _≤_, _<_, min, mul-le-mul-right, one-le-pow, pow-suc, pow-succ', mul-add-div-right, div-eq-of-lt, mod-eq-of-lt, arith, mod-mul, length, take, drop, getD, replicate, take-append-drop, length-append, length-replicate, take-at, take-all, take-append-seam}
-use Rattle.key.specs.Order.{byteOrder}
+use Rattle.base.specs.Kit.{_≡_, refl, ap, sym, _∙_, List, [], _∷_, _++_, ℕ, zero, suc, _+_, _*_, _/_, _%_, _^_, _-_, _≤_, _<_, min, mul-le-mul-right, one-le-pow, pow-suc, pow-succ', mul-add-div-right, div-eq-of-lt, mod-eq-of-lt, arith, mod-mul, length, take, drop, getD, replicate, take-append-drop, length-append, length-replicate, length-take-le, take-at, take-all, take-append-seam}
+use Rattle.key.specs.Order.{order, byteOrder}
 use Rattle.key.specs.declared.Ordering.{Ordering}
 use Rattle.key.specs.Ikey.{be, ikeyOf, digits, ikeyBytes}
 use Rattle.key.specs.Part.{padded}
-use Rattle.key.proofs.Order.{Cmp, is-lt, is-eq, is-gt, cmp, Lex, nil-lt, head-lt, tail-lt, cmp-prefix}
-use Rattle.key.proofs.Bytes.{Bytes}
+use Rattle.key.proofs.Order.{Cmp, is-lt, is-eq, is-gt, cmp, order-less, order-greater, order-equal, Lex, nil-lt, head-lt, tail-lt, lex-cmp, lex-gt, cmp-refl, cmp-prefix}
+use Rattle.key.proofs.Bytes.{Bytes, bytes-take}
 
 pos : (n : ℕ) → 0 < 256 ^ n
 pos n = one-le-pow n 256 (omega arith)
@@ -20,7 +20,7 @@ be-lt (suc n) [] b = omega (arith, be-lt n [] tt)
 be-lt (suc n) (a ∷ s) b = omega (arith, be-lt n s (b .1), mul-le-mul-right (256 ^ n) (b .0))
 
 -- the number looks at the first n bytes only
-be-of-take : (n : ℕ) (s : List ℕ) → be n (take n s) ≡ be n s
+pub be-of-take : (n : ℕ) (s : List ℕ) → be n (take n s) ≡ be n s
 unfolding be
 be-of-take zero s = refl
 be-of-take (suc n) [] = refl
@@ -76,6 +76,20 @@ split (suc n) (a ∷ s) (b ∷ t) bs bt = go (cmp a b) (split n s t (bs .1) (bt 
     go (is-lt h) r = below (first n s t (bs .1) h) (head-lt h)
     go (is-eq h) r = rw h (more n b r)
     go (is-gt h) r = above (first n t s (bt .1) h) (head-lt h)
+
+-- Where both have n bytes, comparing the numbers is comparing the bytes.
+pub order-be : (n : ℕ) (s t : List ℕ) → Bytes s → Bytes t → n ≤ length s → n ≤ length t
+    → order (be n s) (be n t) ≡ byteOrder (take n s) (take n t)
+order-be n s t bs bt h g =
+    rw (← be-of-take n s, ← be-of-take n t) (go (split n (take n s) (take n t) (bytes-take n s bs) (bytes-take n t bt)))
+  where
+    go : Split n (take n s) (take n t) → order (be n (take n s)) (be n (take n t)) ≡ byteOrder (take n s) (take n t)
+    go (below e l) = order-less _ _ e ∙ sym (lex-cmp l)
+    go (above e l) = order-greater _ _ e ∙ sym (lex-gt l)
+    go (shorter e k m l) = absurd (omega (arith, length-take-le n s h, length-take-le n t g))
+    go (longer e k m l) = absurd (omega (arith, length-take-le n s h, length-take-le n t g))
+    go (same e m) = rw e (order-equal _ _ (omega arith) (omega arith) ∙ sym (cmp-refl (take n t)))
+    go (deeper e k m) = absurd (omega (arith, length-take-le n s h))
 
 -- The rank of a byte string in its layer: the ikey first, then the length, with 9 for all that go on past eight bytes.
 -- A proof device, in no contract: one number, so that arithmetic does the lexicographic part.

@@ -1,4 +1,5 @@
 pub mod Order
+pub mod Comparisons
 pub mod Bytes
 pub mod Ikey
 pub mod Turns

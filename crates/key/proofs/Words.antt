@@ -1,7 +1,10 @@
 -- Copies by words: eight bytes are a word, and a word may be copied over the end of what is copied already.
-use Rattle.base.specs.Kit.{_≡_, sym, _∙_, ap, List, _++_, append-assoc, append-nil, ℕ, _+_, _-_, _≤_, min, zero-min, arith, length, take, drop, replicate, length-drop, paste, paste-zero, length-take-le, take-length, take-take, take-add, take-append-add, take-paste, drop-drop, drop-paste}
+use Rattle.base.specs.Kit.{_≡_, refl, sym, _∙_, ap, List, [], _∷_, _++_, append-assoc, append-nil, ℕ, zero, suc, _+_, _-_, _*_, _/_, _%_, _≤_, _<_, min, zero-min, add-one, arith, length, getD, drop-cons, take, drop, replicate, length-drop, paste, paste-zero, length-take-le, take-length, take-take, take-add, take-append-add, take-paste, drop-drop, drop-paste}
 use Rattle.key.specs.Part.{part}
-use Rattle.key.specs.CodeWords.{pasteWord}
+use Rattle.node.specs.Le.{le, u64At}
+use Rattle.key.specs.Ikey.{be}
+use Rattle.key.specs.CodeWords.{pasteWord, lowFirst}
+use Rattle.key.proofs.Ikey.{be-of-take}
 
 -- eight bytes that go through a word of their own
 module _ (s : List ℕ) (i : ℕ) {from : ℕ} {p : List ℕ} (long : 8 ≤ length s) (e : from ≡ min i (length s - 8)) (g : p ≡ part s from 8) where
@@ -48,3 +51,26 @@ module _ (d s : List ℕ) (at : ℕ) (fits : at + length s ≤ length d) (long :
   four-words h p q r t =
       let all : min 32 (length s) ≡ length s = omega arith in
       rw all at (word-on 24 (word-on 16 (word-on 8 (word-on 0 (rw zero-min (paste-zero d at s)) p) q) r) t)
+
+-- The bytes of a little-endian word, the lowest first, are those that it was read from; so the word turned is their number.
+module _ (s : List ℕ) (fits : (i : ℕ) → getD s i 0 < 256) where
+  low-first : (n at : ℕ) → at + n ≤ length s → lowFirst n (le n s at) ≡ take n (drop at s)
+  unfolding lowFirst le
+  low-first zero at h = refl
+  low-first (suc n) at h =
+      let a = getD s at 0 in
+      let x = le n s (at + 1) in
+      let low : (a + 256 * x) % 256 ≡ a = omega (arith, fits at) in
+      let high : (a + 256 * x) / 256 ≡ x = omega (arith, fits at) in
+      rw (low, high, low-first n (at + 1) (omega arith), drop-cons s at 0 (omega arith), add-one at)
+
+  pub turned-word : (at : ℕ) → at + 8 ≤ length s → be 8 (lowFirst 8 (u64At s at)) ≡ be 8 (drop at s)
+  unfolding u64At
+  turned-word at h = ap (be 8) (low-first 8 at h) ∙ be-of-take 8 (drop at s)
+
+-- The number of eight bytes as a plain sum.
+pub eight-sum : (a b c d e f g h : ℕ)
+    → a * 72057594037927936 + b * 281474976710656 + c * 1099511627776 + d * 4294967296 + e * 16777216 + f * 65536 + g * 256 + h
+    ≡ be 8 (a ∷ b ∷ c ∷ d ∷ e ∷ f ∷ g ∷ h ∷ [])
+unfolding be
+eight-sum a b c d e f g h = omega arith

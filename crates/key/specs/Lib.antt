@@ -1,4 +1,5 @@
 pub mod Order
+pub mod Comparisons
 pub mod Ikey
 pub mod Part
 pub mod CodeWords

@@ -2,17 +2,25 @@
 //
 // Interface: every public function here. `part_of`, `copy_in`, `copy_words_in` and `padded` ask that what they read or
 // fill is long enough; each result is fixed by a definition of specs/ or of the library.
-ghost use Rattle.base.specs.Kit.{_≡_, _+_, _≤_, min, getD, length, paste, take};
-ghost use Rattle.key.specs.Order.{byteOrder};
-ghost use Rattle.key.specs.Ikey.{ikeyOf, ikeyBytes};
+use node::le;
+ghost use Rattle.base.specs.Kit.{_≡_, _+_, _≤_, min, getD, length, paste, take, drop, replicate};
+ghost use Rattle.key.specs.Order.{order, byteOrder};
+ghost use Rattle.key.specs.Comparisons.{comparedBy, compared};
+ghost use Rattle.key.specs.Ikey.{be, ikeyOf, ikeyBytes};
 ghost use Rattle.key.specs.Part.{part, padded};
-ghost use Rattle.key.specs.CodeWords.{pasteWord};
+ghost use Rattle.key.specs.CodeWords.{lowFirst, pasteWord};
 
 // The answer of a comparison.
 pub enum Ordering {
     Less,
     Equal,
     Greater,
+}
+
+// The answer of a comparison by pieces: plain byte order's, and how many pieces were compared.
+pub struct Compared {
+    pub order: Ordering,
+    pub comparisons: usize,
 }
 
 // The n bytes of s from `at` on.
@@ -34,29 +42,103 @@ pub fn first<'a>(s: &'a [u8], n: usize) -> &'a [u8]
     part_of(s, 0, n)
 }
 
+// Two numbers compared.
+fn order_of(x: u64, y: u64) -> Ordering
+    ensures { λ r. ⌜ r ≡ order x y ⌝ }
+{
+    if x < y {
+        return Ordering::Less;
+    }
+    if y < x {
+        return Ordering::Greater;
+    }
+    Ordering::Equal
+}
+
+// The number whose bytes are those of x the other way round.
+fn turned(x: u64) -> u64
+    ensures { λ r. ⌜ r ≡ be 8 (lowFirst 8 x) ⌝ }
+{
+    let b = x / 256;
+    let c = b / 256;
+    let d = c / 256;
+    let e = d / 256;
+    let f = e / 256;
+    let g = f / 256;
+    let h = g / 256;
+    x % 256 * 72057594037927936
+        + b % 256 * 281474976710656
+        + c % 256 * 1099511627776
+        + d % 256 * 4294967296
+        + e % 256 * 16777216
+        + f % 256 * 65536
+        + g % 256 * 256
+        + h % 256
+}
+
+// Eight bytes of a key as one number, the first one highest: one load, and its bytes turned.
+fn eight_at(s: &[u8], at: usize) -> u64
+    requires { ⌜ at + 8 ≤ length (now s) ⌝ }
+    ensures { λ r. ⌜ r ≡ be 8 (drop at (now (s .entry))) ⌝ }
+{
+    turned(le::u64_at(s, at))
+}
+
+// Two keys compared by single bytes; their lengths decide where no byte does.
+fn compare_bytes(a: &[u8], b: &[u8]) -> Compared
+    ensures { λ r. ⌜ r ≡ comparedBy (replicate (min (length (now (a .entry))) (length (now (b .entry)))) 1) (now (a .entry)) (now (b .entry)) ⌝ }
+{
+    let both = least(a.len(), b.len());
+    let mut i = 0;
+    while i < both {
+        let x = wide(a[i]);
+        let y = wide(b[i]);
+        if x != y {
+            return Compared {
+                order: order_of(x, y),
+                comparisons: i + 1,
+            };
+        }
+        i += 1;
+    }
+    Compared {
+        order: order_of(a.len() as u64, b.len() as u64),
+        comparisons: both,
+    }
+}
+
+// Two keys compared by eights while both have eight left, then by single bytes.
+pub fn compare_by_eights(a: &[u8], b: &[u8]) -> Compared
+    ensures { λ r. ⌜ r ≡ compared (now (a .entry)) (now (b .entry)) ⌝ }
+{
+    let eights = least(a.len(), b.len()) / 8;
+    let mut n = 0;
+    while n < eights {
+        let x = eight_at(a, 8 * n);
+        let y = eight_at(b, 8 * n);
+        if x != y {
+            return Compared {
+                order: order_of(x, y),
+                comparisons: n + 1,
+            };
+        }
+        n += 1;
+    }
+    let at = 8 * eights;
+    let rest = compare_bytes(part_of(a, at, a.len() - at), part_of(b, at, b.len() - at));
+    let order = rest.order;
+    Compared {
+        order: order,
+        comparisons: eights + rest.comparisons,
+    }
+}
+
 // Plain byte order of two keys.
 pub fn compare(a: &[u8], b: &[u8]) -> Ordering
     ensures { λ r. ⌜ r ≡ byteOrder (now (a .entry)) (now (b .entry)) ⌝ }
 {
-    let mut i = 0;
-    while i < a.len() {
-        if b.len() <= i {
-            return Ordering::Greater;
-        }
-        let x = a[i];
-        let y = b[i];
-        if x < y {
-            return Ordering::Less;
-        }
-        if y < x {
-            return Ordering::Greater;
-        }
-        i += 1;
-    }
-    if i < b.len() {
-        return Ordering::Less;
-    }
-    Ordering::Equal
+    let c = compare_by_eights(a, b);
+    c.order
 }
 
 // The byte at i, or 0 past the key's end.

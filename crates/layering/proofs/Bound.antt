@@ -4,19 +4,20 @@ use Rattle.base.specs.Pick.{pick}
 use Rattle.key.specs.Order.{byteOrder}
 use Rattle.key.specs.declared.Ordering.{Ordering}
 use Rattle.key.proofs.Order.{Lex, lex-trans, CmpB, b-lt, b-eq, b-gt, cmpb, lex-gt}
-use Rattle.cursor.specs.RangeBound.{admits, contains}
+use Rattle.cursor.specs.RangeBound.{sideOf, isWithin, contains}
+use Rattle.cursor.proofs.Bound.{contains-by-order}
 
 pub contains-closed : (kind : ℕ) (bound x y : List ℕ) → Lex x y
     → contains kind bound x ≡ false → contains kind bound y ≡ false
-unfolding contains admits pick
-contains-closed kind bound x y h = go (eqb kind 0)
+unfolding sideOf isWithin pick
+contains-closed kind bound x y h e = rw (contains-by-order kind bound y) (go (eqb kind 0) (rw (contains-by-order kind bound x) at e))
   where
-    past : {o : Ordering} → CmpB x bound o → admits kind o ≡ false → admits kind (byteOrder y bound) ≡ false
-    past (b-lt l) e = absurd (true≢false e)
-    past (b-eq l) e = rw (lex-gt (rw l at h))
-    past (b-gt l) e = rw (lex-gt (lex-trans l h))
+    beyond : {o : Ordering} → CmpB x bound o → isWithin (sideOf kind o) ≡ false → isWithin (sideOf kind (byteOrder y bound)) ≡ false
+    beyond (b-lt l) e = absurd (true≢false e)
+    beyond (b-eq l) e = rw (lex-gt (rw l at h))
+    beyond (b-gt l) e = rw (lex-gt (lex-trans l h))
 
-    go : (c : Bool) → pick c true (admits kind (byteOrder x bound)) ≡ false
-        → pick c true (admits kind (byteOrder y bound)) ≡ false
+    go : (c : Bool) → pick c true (isWithin (sideOf kind (byteOrder x bound))) ≡ false
+        → pick c true (isWithin (sideOf kind (byteOrder y bound))) ≡ false
     go true e = e
-    go false e = past (cmpb x bound) e
+    go false e = beyond (cmpb x bound) e

@@ -7,6 +7,7 @@ use Rattle.key.specs.Ikey.{ikeyBytes}
 use Rattle.key.specs.Order.{byteOrder}
 use Rattle.node.specs.Layout.{keyCount}
 use Rattle.cursor.specs.RangeBound.{contains}
+use Rattle.cursor.proofs.Bound.{contains-all}
 use Rattle.cursor.specs.declared.range_bound.StartMode.the-variants.{From}
 use Rattle.layering.specs.Tree.{Node, leaf, internode, beyond, Kids, last, more, Slots, none, value, layer, treeOf}
 use Rattle.layering.specs.Keys.{Pair, pairsN, pairsK, pairsS, livePairs, valuesN, valuesK, valuesS, livesN, livesK, livesS}
@@ -68,11 +69,11 @@ every t h [] = tt
 every t h (x ∷ l) = (h (x .key), every t h l)
 
 pub whole-row : (image bound : List ℕ) → rowOf image From [] 0 bound ≡ livePairs image
-unfolding rowOf contains pick
+unfolding rowOf
 whole-row image bound =
     let l = livePairs image in
     rw (sieve-all (past From []) l (every (past From []) from-empty l))
-    (sieve-all (contains 0 bound) l (every (contains 0 bound) (λ key. refl) l))
+    (sieve-all (contains 0 bound) l (every (contains 0 bound) (contains-all bound) l))
 
 -- THE COUNT
 pub count-is-row : (image : List ℕ) → Obeys image → keyCount image ≡ length (rowOf image From [] 0 [])

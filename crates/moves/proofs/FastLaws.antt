@@ -9,7 +9,7 @@ use Rattle.search.specs.Traversal.{leafThere}
 use Rattle.search.specs.Helper.{slotIn}
 use Rattle.search.proofs.TraversalLaws.{not-second}
 use Rattle.moves.specs.Moves.{Taken, onward, isStorable, keyPlace, keyBuf, handOut, emitKey, takeKey, takeSlot, unlessDup, findSlot, findNext}
-use Rattle.moves.specs.CodeFastPath.{fastSlot, nextKey}
+use Rattle.moves.specs.CodeFastPath.{fastSlot, nextOf, nextKey}
 
 -- THE SLOT THAT IS FAST: its position is in use, its ikey is not below the cursor's, and its key is live and can be stored.
 pub record Fast (image : List ℕ) (leaf : ℕ) (p : Position) (k : CursorPlace) (s : Slot) : Type 0 where
@@ -85,7 +85,7 @@ module _ (image : List ℕ) (kind : ℕ) (bound buf : List ℕ) (c : ScanCtx) wh
     takes-live = rw (facts .storable, facts .live)
 
     hands-out : handOut image kind bound (bufOf s) c s (keyOf s) ≡ passOf c (nextKey image kind bound buf (c .leaf) s (c .cursor))
-    unfolding handOut nextKey passOf
+    unfolding handOut nextKey nextOf passOf
     hands-out = chosen c _ _ _
 
     -- o is what `hand_out` answered
@@ -104,5 +104,12 @@ one-place false k value = refl
 
 pub next-place : (image : List ℕ) (kind : ℕ) (bound buf : List ℕ) (leaf : ℕ) (s : Slot) (k : CursorPlace) (o : NextKey)
     → o ≡ nextKey image kind bound buf leaf s k → placeIn o ≡ keyPlace image leaf s k
-unfolding nextKey
+unfolding nextKey nextOf
 next-place image kind bound buf leaf s k o e = ap placeIn e ∙ one-place _ _ _
+
+-- `store_key` and `hand_out`, one after the other
+pub stored-next : (image : List ℕ) (kind : ℕ) (bound buf buf′ : List ℕ) (leaf : ℕ) (s : Slot) (k stored : CursorPlace) (o : NextKey)
+    → stored ≡ keyPlace image leaf s k → buf′ ≡ keyBuf image leaf s (k .offset) buf → o ≡ nextOf image kind bound buf′ leaf s stored
+    → o ≡ nextKey image kind bound buf leaf s k
+unfolding nextKey
+stored-next image kind bound buf buf′ leaf s k stored o e f g = rw (← e, ← f) g

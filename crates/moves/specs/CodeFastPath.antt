@@ -16,8 +16,11 @@ fastSlot image leaf p k =
     pick (ltb (p .0) (sizeOf (permutationAt image leaf)) && (ltb (s .0) 15 && (leb (k .ikey) (ikeyAt image leaf s) && (isStorable image leaf s (k .offset) && liveAt image leaf s))))
     (At s) Slow
 
--- Its key, stored, by the bound.
+-- A key that cursor and buffer hold, by the bound.
+unfoldable pub nextOf : List ℕ → ℕ → List ℕ → List ℕ → ℕ → Slot → CursorPlace → NextKey
+nextOf image kind bound buf leaf s stored =
+    pick (contains kind bound (take (stored .offset + stored .len) buf)) (Out stored (valueAt image leaf s)) (Past stored)
+
+-- The slot's key, stored, by the bound.
 unfoldable pub nextKey : List ℕ → ℕ → List ℕ → List ℕ → ℕ → Slot → CursorPlace → NextKey
-nextKey image kind bound buf leaf s k =
-    let stored = keyPlace image leaf s k in
-    pick (contains kind bound (take (stored .offset + stored .len) (keyBuf image leaf s (k .offset) buf))) (Out stored (valueAt image leaf s)) (Past stored)
+nextKey image kind bound buf leaf s k = nextOf image kind bound (keyBuf image leaf s (k .offset) buf) leaf s (keyPlace image leaf s k)

@@ -1,6 +1,6 @@
 // The fast path, which the Rust has not: after a key most moves hand out the next slot's key, and no test but the bound's turns it away.
-// The loop, the step and the step of a C record all make such a move by these two functions, each on the walk as it has it;
-// `one_move` makes every other.
+// The loop, the step and the step of a C record all make such a move by these two functions, with `store_key` between them, each on the
+// walk as it has it; `one_move` makes every other.
 use crate::stored_key;
 use cursor::cursor_key::CursorPlace;
 use cursor::range_bound;
@@ -8,10 +8,9 @@ use node::leaf;
 use node::permuter;
 use node::permuter::Position;
 use node::permuter::Slot;
-ghost use Rattle.base.specs.Kit.{_≡_, true, _≤_, length};
+ghost use Rattle.base.specs.Kit.{_≡_, _+_, _≤_, length};
 ghost use Rattle.node.specs.Layout.{InLeaf, InSlot};
-ghost use Rattle.moves.specs.Moves.{isStorable, keyBuf};
-ghost use Rattle.moves.specs.CodeFastPath.{fastSlot, nextKey};
+ghost use Rattle.moves.specs.CodeFastPath.{fastSlot, nextOf};
 
 // The slot whose key is next, or that it takes more than this to tell.
 pub enum FastSlot {
@@ -53,23 +52,21 @@ pub fn fast_slot(image: &[u8], leaf: usize, position: Position, k: CursorPlace) 
     FastSlot::At(slot)
 }
 
-// A live slot's key into cursor and buffer, and whether the bound admits it.
+// Whether the bound admits a live slot's key, which cursor and buffer hold; `store_key` has put it there.
 pub fn hand_out(
     image: &[u8],
     kind: u8,
     bound: &[u8],
-    buf: &mut [u8],
+    buf: &[u8],
     leaf: usize,
     slot: Slot,
-    k: CursorPlace,
+    stored: CursorPlace,
 ) -> NextKey
     requires { ⌜ InSlot (now image) leaf slot ⌝ }
+    requires { ⌜ stored .offset + stored .len ≤ 256 ⌝ }
     requires { ⌜ length (now buf) ≡ 256 ⌝ }
-    requires { ⌜ k .offset ≤ 248 ⌝ }
-    requires { ⌜ isStorable (now image) leaf slot (k .offset) ≡ true ⌝ }
-    ensures { λ r. ⌜ (r ≡ nextKey (now (image .entry)) kind (now (bound .entry)) (now (buf .entry)) leaf slot k) × (now (buf .exit) ≡ keyBuf (now (image .entry)) leaf slot (k .offset) (now (buf .entry))) ⌝ }
+    ensures { λ r. ⌜ r ≡ nextOf (now (image .entry)) kind (now (bound .entry)) (now (buf .entry)) leaf slot stored ⌝ }
 {
-    let stored = stored_key::store_key(image, leaf, slot, buf, k);
     if range_bound::contains(
         kind,
         bound,

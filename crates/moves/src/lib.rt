@@ -2,7 +2,7 @@
 // the buffer lent; the loop holds the layer stack. Where the Rust waits for a stable version or starts again, a resting image that cannot
 // be read is an answer.
 //
-// Interface: `one_move`, the functions of fast_path, and the types of context. A move asks that the key it works on lies within the
+// Interface: `one_move`, the functions of fast_path, `store_key`, and the types of context. A move asks that the key it works on lies within the
 // buffer, which the step's test of a walk's numbers (21) gives; whatever the image says is an answer.
 use crate::context::Outcome;
 use crate::context::Pass;
@@ -19,7 +19,7 @@ pub mod context;
 pub mod fast_path;
 mod find_next;
 mod find_start;
-mod stored_key;
+pub mod stored_key;
 
 // Down: into the layer whose root the loop has taken.
 fn handle_down(c: ScanCtx) -> Pass

@@ -4,6 +4,7 @@ use crate::in_place;
 use moves::fast_path;
 use moves::fast_path::FastSlot;
 use moves::fast_path::NextKey;
+use moves::stored_key;
 use node::permuter::Position;
 use node::permuter::Slot;
 use scan::forward_ctx;
@@ -83,7 +84,8 @@ fn step_fast(
     let kind = numbers[layout::KIND] as u8;
     let end = key::part_of(bound, 0, numbers[layout::BOUND_LEN] as usize);
     let leaf = numbers[layout::LEAF] as usize;
-    let next = fast_path::hand_out(image, kind, end, buf, leaf, slot, k);
+    let stored = stored_key::store_key(image, leaf, slot, buf, k);
+    let next = fast_path::hand_out(image, kind, end, buf, leaf, slot, stored);
     match next {
         NextKey::Out { k, value } => {
             let len = k.offset + k.len;

@@ -3,6 +3,8 @@
 //
 // Interface: `run`, which has no `requires` and hands nothing back.
 use cursor::cursor_key::CursorKey;
+use cursor::range_bound;
+use cursor::range_bound::Side;
 use cursor::range_bound::StartMode;
 use key::first;
 use requests::item;
@@ -35,6 +37,9 @@ const STATES: u8 = 5;
 
 // 6: as 1, by the lent form of the step.
 const LENT: u8 = 6;
+
+// 7: the bound test of the key in the cursor's place, and neither check nor walk.
+const BOUND: u8 = 7;
 
 // The placing of a request: mode 0 is above, 1 from, and any other the short form.
 fn placed(mode: u8, kind: u8, cursor: &[u8], bound: &[u8], image: &[u8]) -> Placed {
@@ -244,8 +249,22 @@ fn is_accepted(name: &[u8], form: u8, image: &[u8]) -> bool {
     }
 }
 
+// The bound test: the side, and the comparisons.
+fn tested(name: &[u8], kind: u8, bound: &[u8], key: &[u8]) {
+    let t = range_bound::test(kind, bound, key);
+    let side = t.side;
+    match side {
+        Side::Inside => line(name, b" inside ", t.comparisons),
+        Side::Past => line(name, b" past ", t.comparisons),
+    }
+}
+
 // The answers of a request in its form, with the start mode and the bound's kind.
 fn request(name: &[u8], form: u8, mode: u8, kind: u8, cursor: &[u8], bound: &[u8], image: &[u8]) {
+    if form == BOUND {
+        tested(name, kind, bound, cursor);
+        return;
+    }
     if form == CHECK {
         is_accepted(name, form, image);
         return;

@@ -5,6 +5,7 @@ use moves::context::ScanState;
 use moves::fast_path;
 use moves::fast_path::FastSlot;
 use moves::fast_path::NextKey;
+use moves::stored_key;
 use search::traversal;
 ghost use Rattle.base.specs.Kit.{_≡_, _≤_, length};
 ghost use Rattle.moves.specs.CodeMoves.{InRange};
@@ -102,7 +103,8 @@ pub fn along_leaf(
             }
             FastSlot::At(slot) => {
                 moves += 1;
-                let next = fast_path::hand_out(image, kind, bound, buf, at, slot, k);
+                let stored = stored_key::store_key(image, at, slot, buf, k);
+                let next = fast_path::hand_out(image, kind, bound, buf, at, slot, stored);
                 match next {
                     NextKey::Out { k, value: _ } => {
                         c = context::go_on(c, k, k.ikey);

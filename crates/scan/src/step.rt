@@ -5,6 +5,7 @@ use moves::context;
 use moves::fast_path;
 use moves::fast_path::FastSlot;
 use moves::fast_path::NextKey;
+use moves::stored_key;
 use search::traversal;
 use walk::scan_state::Answer;
 use walk::scan_state::Stepped;
@@ -41,7 +42,8 @@ fn step_next(walk: Walk, image: &[u8]) -> Stepped
         FastSlot::At(slot) => {
             let bound = key::part_of(&walk.bound.key, 0, walk.bound.len);
             let mut buf = walk.cursor.buf;
-            let next = fast_path::hand_out(image, walk.bound.kind, bound, &mut buf, at, slot, k);
+            let stored = stored_key::store_key(image, at, slot, &mut buf, k);
+            let next = fast_path::hand_out(image, walk.bound.kind, bound, &buf, at, slot, stored);
             match next {
                 NextKey::Out { k, value } => {
                     let len = k.offset + k.len;

@@ -6,7 +6,8 @@
 -- `open` and `next_line` (listed/src/lib.rt), and the five of punchbronze/src/lib.rt. None of them has a `requires`.
 use Rattle.base.specs.Kit.{_≡_, true, not, map, List, [], ℕ, _≤_, _<_, eqb, length, getD}
 use Rattle.base.specs.Pick.{pick}
-use Rattle.cursor.specs.RangeBound.{contains}
+use Rattle.key.specs.Order.{byteOrder}
+use Rattle.cursor.specs.RangeBound.{sideOf, isWithin, contains}
 use Rattle.cursor.specs.declared.range_bound.StartMode.{StartMode}
 use Rattle.cursor.specs.declared.range_bound.StartMode.the-variants.{Above, From}
 use Rattle.node.specs.Layout.{keyCount}
@@ -30,6 +31,7 @@ use Rattle.punchbronze.specs.Interface.{fitting, placedNumber, PutPlaced}
 use Rattle.c_demands.specs.CDemand.{CCall, CLent, CDemand3}
 use Rattle.scan.proofs.ByRule01.{ByRule01}
 use Rattle.verify.proofs.Theorem as verify
+use Rattle.cursor.proofs.Bound as bound
 use Rattle.layering.proofs.Pairs as layering
 use Rattle.layering.proofs.Asked as asked
 use Rattle.layering.proofs.Lives as lives
@@ -92,6 +94,11 @@ row-admitted = asked.row-admitted
 pub same-row : (image other : List ℕ) → livePairs image ≡ livePairs other → (mode : StartMode) (cursor : List ℕ) (kind : ℕ) (bound : List ℕ)
     → rowOf image mode cursor kind bound ≡ rowOf other mode cursor kind bound
 same-row = asked.same-row
+
+-- 02 [4]: the bound test's answer is plain byte order's, whatever pieces the keys are compared in.
+pub contains-by-order : (kind : ℕ) (bound key : List ℕ)
+    → contains kind bound key ≡ pick (eqb kind 0) true (isWithin (sideOf kind (byteOrder key bound)))
+contains-by-order = bound.contains-by-order
 
 -- 02 [1]: up to eight bytes a placing begins by 01's own rule, over every image.
 pub placed-by-rule-01 : (image : List ℕ) (mode : StartMode) (cursor : List ℕ) (kind : ℕ) (bound : List ℕ)

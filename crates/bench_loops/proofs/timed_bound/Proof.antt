@@ -39,8 +39,8 @@ timed-bound-spec =
     (λ c. omega (arith, row-there _ _ _ _ _ _ _ _ (c .before .before .before .loop .inv) (c .before .before .loop-test .taken)))
     (search needs)
     (λ c. let args = c .before .before .before .before .before .before .before .args in
-        let at = c .before .before .before in
-        counts-on (args .width) (args .kind) (args .bound .now) (args .names .now) _ _ _ _ (at .loop .inv) (c .before .before .loop-test .taken)
-        (c .contains .result) (c .contains .ensures ∙ rw (c .before .part-of .ensures)))
+    let at = c .before .before .before in
+    counts-on (args .width) (args .kind) (args .bound .now) (args .names .now) _ _ _ _ (at .loop .inv) (c .before .before .loop-test .taken)
+    (c .contains .result) (c .contains .ensures ∙ rw (c .before .part-of .ensures)))
     (λ c. let args = c .before .before .before .before .before .args in
-        all-counted (args .width) (args .kind) (args .bound .now) (args .names .now) _ _ _ _ (c .before .loop .inv) (c .loop-test .left)))
+    all-counted (args .width) (args .kind) (args .bound .now) (args .names .now) _ _ _ _ (c .before .loop .inv) (c .loop-test .left)))

@@ -2,7 +2,8 @@
 use Rattle.base.specs.Kit.{_-_, sym, _∙_, refl, arith, needs, length}
 use Rattle.base.proofs.Choice.{found-so, found-not}
 use Rattle.moves.proofs.Answers.{there-in}
-use Rattle.moves.proofs.FastLaws.{fast-facts}
+use Rattle.moves.proofs.FastLaws.{fast-facts, stored-next}
+use Rattle.moves.proofs.StoredKey.{key-fits, key-buf-length}
 use Rattle.scan.proofs.AlongLaws.{Going, room, spent, gone, slow, out, past}
 use Rattle.scan.proofs.along_leaf.along_leaf.Statement.{statement}
 use Rattle.scan.proofs.along_leaf.along_leaf.Tie as tie
@@ -36,48 +37,59 @@ returns-2 c =
     rw (c .ended-by2 .ensures)
     (slow _ _ _ _ _ _ _ _ _ _ _ (inside .before .loop .inv) (inside .loop-test .taken) (found-so _ _ (leaf .before .is-leaf-there .ensures) (leaf .if1 .left)))
 
-hand-out-requires : tie.Need-hand-out-requires Inv-loop μ-loop
-hand-out-requires c κs =
+store-key-requires : tie.Need-store-key-requires Inv-loop μ-loop
+store-key-requires c κs =
     let found = c .before .before .before .before in
     let leaf = found .before .before .before in
     let inv = leaf .before .before .before .loop .inv in
     let fast = fast-facts _ _ _ _ _ (sym (found .fast-slot .ensures) ∙ c .before .before .fast .given .1) in
     ((there-in _ _ _ (leaf .before .is-leaf-there .ensures) (leaf .if1 .left), fast .fifteen), (inv .long, (room _ _ _ _ _ _ _ _ _ _ _ inv, fast .storable)))
 
+hand-out-requires : tie.Need-hand-out-requires Inv-loop μ-loop
+hand-out-requires c κs =
+    let store = c .before .before in
+    let found = store .before .before .before .before .before in
+    let leaf = found .before .before .before in
+    let inv = leaf .before .before .before .loop .inv in
+    let fast = fast-facts _ _ _ _ _ (sym (found .fast-slot .ensures) ∙ store .before .before .before .fast .given .1) in
+    ((there-in _ _ _ (leaf .before .is-leaf-there .ensures) (leaf .if1 .left), fast .fifteen), (rw (store .store-key .ensures .0) (key-fits _ _ _ _ (room _ _ _ _ _ _ _ _ _ _ _ inv) (fast .storable)), rw (store .store-key .ensures .1) (key-buf-length _ _ _ (leaf .before .before .before .loop .c .cursor) (room _ _ _ _ _ _ _ _ _ _ _ inv) (fast .storable) _ (inv .long))))
+
 go-on-requires : tie.Need-go-on-requires Inv-loop μ-loop
-go-on-requires c κs = c .before .before .before .before .before .before .before .before .before .before .before .before .before .before .loop .inv .in-range .position
+go-on-requires c κs = c .before .before .before .before .before .before .before .before .before .before .before .before .before .before .before .before .before .loop .inv .in-range .position
 
 add-keys : tie.Need-add-keys Inv-loop μ-loop
 add-keys c =
-    let start = c .before .before .before .before .before .before .before .before .before .before .before .before .before .before .before in
+    let start = c .before .before .before .before .before .before .before .before .before .before .before .before .before .before .before .before .before .before in
     let f = start .loop .inv .few in
     search needs
 
 loop-less : tie.Need-loop-less Inv-loop μ-loop
 loop-less c =
-    let more = c .before .before .before .before .before .before .before .before .before .before .before .before .before .before .loop-test .taken in
+    let more = c .before .before .before .before .before .before .before .before .before .before .before .before .before .before .before .before .before .loop-test .taken in
     omega arith
 
 loop-again : tie.Need-loop-again Inv-loop μ-loop
 loop-again c =
     let handed = c .before .before .before .before in
-    let found = handed .before .before .before .before .before in
+    let store = handed .before .before .before in
+    let found = store .before .before .before .before .before in
     let leaf = found .before .before .before in
     let inside = leaf .before .before in
     rw (c .go-on .ensures)
-    (out _ _ _ _ _ _ _ _ _ _ _ (inside .before .loop .inv) (inside .loop-test .taken) (found-so _ _ (leaf .before .is-leaf-there .ensures) (leaf .if1 .left)) _ (sym (found .fast-slot .ensures) ∙ handed .before .before .before .fast .given .1) _ _ (handed .hand-out .ensures .1) _ (sym (c .before .before .next .given .1) ∙ handed .hand-out .ensures .0))
+    (out _ _ _ _ _ _ _ _ _ _ _ (inside .before .loop .inv) (inside .loop-test .taken) (found-so _ _ (leaf .before .is-leaf-there .ensures) (leaf .if1 .left)) _ (sym (found .fast-slot .ensures) ∙ store .before .before .before .fast .given .1) _ _ (store .store-key .ensures .1) _ (sym (c .before .before .next .given .1) ∙ stored-next _ _ _ _ _ _ _ _ _ _ (store .store-key .ensures .0) (store .store-key .ensures .1) (handed .hand-out .ensures)))
 
 go-on-requires-2 : tie.Need-go-on-requires-2 Inv-loop μ-loop
-go-on-requires-2 c κs = c .before .before .before .before .before .before .before .before .before .before .before .before .before .before .loop .inv .in-range .position
+go-on-requires-2 c κs = c .before .before .before .before .before .before .before .before .before .before .before .before .before .before .before .before .before .loop .inv .in-range .position
 
 returns-3 : tie.Need-returns-3 Inv-loop μ-loop
 returns-3 c =
     let handed = c .before .before .before .before .before in
-    let found = handed .before .before .before .before .before in
+    let store = handed .before .before .before in
+    let found = store .before .before .before .before .before in
     let leaf = found .before .before .before in
     let inside = leaf .before .before in
     rw (c .ended-by3 .ensures, c .before .go-on2 .ensures)
-    (past _ _ _ _ _ _ _ _ _ _ _ (inside .before .loop .inv) (inside .loop-test .taken) (found-so _ _ (leaf .before .is-leaf-there .ensures) (leaf .if1 .left)) _ (sym (found .fast-slot .ensures) ∙ handed .before .before .before .fast .given .1) _ _ (handed .hand-out .ensures .1) (sym (c .before .before .before .next2 .given .1) ∙ handed .hand-out .ensures .0))
+    (past _ _ _ _ _ _ _ _ _ _ _ (inside .before .loop .inv) (inside .loop-test .taken) (found-so _ _ (leaf .before .is-leaf-there .ensures) (leaf .if1 .left)) _ (sym (found .fast-slot .ensures) ∙ store .before .before .before .fast .given .1) _ _ (store .store-key .ensures .1) (sym (c .before .before .before .next2 .given .1) ∙ stored-next _ _ _ _ _ _ _ _ _ _ (store .store-key .ensures .0) (store .store-key .ensures .1) (handed .hand-out .ensures)))
 
 returns-4 : tie.Need-returns-4 Inv-loop μ-loop
 returns-4 c = rw (c .ended-by4 .ensures) (spent _ _ _ _ _ _ _ _ _ _ _ (c .before .before .loop .inv) (c .before .loop-test .left))
@@ -99,6 +111,7 @@ along-leaf-spec =
     returns-2
     (λ c. search needs)
     (λ c. search needs)
+    store-key-requires
     hand-out-requires
     (λ c. search needs)
     go-on-requires
