@@ -24,7 +24,7 @@ tested kind bound key =
     let c = compared key bound in
     pick (eqb kind 0) (record { side = Inside; comparisons = 0 }) (record { side = sideOf kind (c .order); comparisons = c .comparisons })
 
--- The sides that a walk hands out.
+-- The side whose keys a walk hands out.
 unfoldable pub isWithin : Side → Bool
 isWithin Inside = true
 isWithin Past = false

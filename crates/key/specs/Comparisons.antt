@@ -27,5 +27,6 @@ through (w ∷ ws) s t = suc (ifEqual (byteOrder (take w s) (take w t)) (through
 unfoldable pub comparedBy : List ℕ → List ℕ → List ℕ → Compared
 comparedBy ws s t = record { order = byteOrder s t; comparisons = through ws s t }
 
+-- By eights, and then by single bytes.
 unfoldable pub compared : List ℕ → List ℕ → Compared
 compared s t = comparedBy (widths (min (length s) (length t))) s t

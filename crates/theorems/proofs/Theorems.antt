@@ -3,7 +3,8 @@
 --
 -- What functions return is fixed by their contracts, which are equations with definitions of the same names: `check_image` (verify/src/lib.rt),
 -- `place` and `place_short` (walk/src/placing.rt), `step` (scan/src/step.rt), `step_lent` (lent/src/lib.rt), `tally` (survey/src/lib.rt),
--- `open` and `next_line` (listed/src/lib.rt), and the five of punchbronze/src/lib.rt. None of them has a `requires`.
+-- `open` and `next_line` (listed/src/lib.rt), the five of punchbronze/src/lib.rt, and the bound test, `test` (cursor/src/range_bound.rt), whose
+-- definition is `tested`. None of them has a `requires`.
 use Rattle.base.specs.Kit.{_≡_, true, not, map, List, [], ℕ, _≤_, _<_, eqb, length, getD}
 use Rattle.base.specs.Pick.{pick}
 use Rattle.key.specs.Order.{byteOrder}
