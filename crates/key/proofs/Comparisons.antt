@@ -48,7 +48,7 @@ module _ (a b : List ℕ) (at made w : ℕ) (ws : List ℕ) (r : Compared) (left
   whole = front-then-rest w (drop at a) (drop at b) (omega (arith, length-drop at a)) (omega (arith, length-drop at b))
 
   -- they differ: that is the answer, and this comparison the last
-  pub differ : (x ≡ y → ⊥) → record { order = order x y; comparisons = made + 1 } ≡ r
+  differ : (x ≡ y → ⊥) → record { order = order x y; comparisons = made + 1 } ≡ r
   unfolding through ifEqual then part
   differ n = go (cmp x y) e ∙ left
     where
@@ -59,7 +59,7 @@ module _ (a b : List ℕ) (at made w : ℕ) (ws : List ℕ) (r : Compared) (left
       go (is-gt h) f = rw (← whole, ← f)
 
   -- they agree: the loop goes on behind them
-  pub agree : x ≡ y → After a b (at + w) (made + 1) ws ≡ r
+  agree : x ≡ y → After a b (at + w) (made + 1) ws ≡ r
   unfolding through ifEqual then part
   agree n =
       let f : Equal ≡ byteOrder (part a at w) (part b at w) = sym (order-equal x y (omega arith) (omega arith)) ∙ e in
@@ -67,7 +67,7 @@ module _ (a b : List ℕ) (at made w : ℕ) (ws : List ℕ) (r : Compared) (left
       rw (k, ← drop-drop w at a, ← drop-drop w at b) (rw (← whole, ← f) at left)
 
 -- No more comparisons than pieces.
-pub through-most : (ws s t : List ℕ) → through ws s t ≤ length ws
+through-most : (ws s t : List ℕ) → through ws s t ≤ length ws
 unfolding through ifEqual
 through-most [] s t = omega arith
 through-most (w ∷ ws) s t = go (byteOrder (take w s) (take w t)) (through-most ws (drop w s) (drop w t))
@@ -78,7 +78,7 @@ through-most (w ∷ ws) s t = go (byteOrder (take w s) (take w t)) (through-most
     go Greater h = omega arith
 
 -- Where the shorter one ends, the lengths decide.
-pub by-length : (a b : List ℕ) (m : ℕ) → m ≡ min (length a) (length b) → byteOrder (drop m a) (drop m b) ≡ order (length a) (length b)
+by-length : (a b : List ℕ) (m : ℕ) → m ≡ min (length a) (length b) → byteOrder (drop m a) (drop m b) ≡ order (length a) (length b)
 unfolding byteOrder
 by-length a b m e = go (cmp (length a) (length b))
   where
@@ -99,7 +99,7 @@ module _ (a b : List ℕ) (w n : ℕ) (rest : List ℕ) (r : Compared) where
   Left i = (i ≤ n) × (After a b (w * i) i (replicate (n - i) w ++ rest) ≡ r)
 
   -- it holds at the start
-  pub begins : comparedBy (replicate n w ++ rest) a b ≡ r → Left 0
+  begins : comparedBy (replicate n w ++ rest) a b ≡ r → Left 0
   unfolding comparedBy
   begins e = (omega arith, rw (mul-zero, sub-zero, zero-add) e)
 
@@ -109,14 +109,14 @@ module _ (a b : List ℕ) (w n : ℕ) (rest : List ℕ) (r : Compared) where
     next : After a b (w * i) i (w ∷ (replicate (n - (i + 1)) w ++ rest)) ≡ r
     next = rw (left-more n i h) at (inv .1)
 
-    pub differs : (x ≡ y → ⊥) → record { order = order x y; comparisons = i + 1 } ≡ r
+    differs : (x ≡ y → ⊥) → record { order = order x y; comparisons = i + 1 } ≡ r
     differs m = differ a b (w * i) i w (replicate (n - (i + 1)) w ++ rest) r next k l x y e m
 
-    pub agrees : x ≡ y → Left (i + 1)
+    agrees : x ≡ y → Left (i + 1)
     agrees m = (omega arith, rw (add-one, mul-suc w i, ← add-one) (agree a b (w * i) i w (replicate (n - (i + 1)) w ++ rest) r next k l x y e m))
 
   -- all pieces agree: the rest decides
-  pub ends : (i : ℕ) → Left i → n ≤ i → After a b (w * n) n rest ≡ r
+  ends : (i : ℕ) → Left i → n ≤ i → After a b (w * n) n rest ≡ r
   ends i inv h =
       let e : i ≡ n = omega arith in
       let f : n - n ≡ 0 = omega arith in
