@@ -2,7 +2,7 @@
  *   bound rows FILE WIDTH REPEATS KIND BOUND    the test by itself, on every name of a file, a row of WIDTH bytes each
  *   bound walk IMAGE REPEATS KIND BOUND         walks above the empty name
  *
- * BOUND is in hex, or `-`. All forms take turns, REPEATS times, and for each a line is printed, with the shortest of its runs:
+ * BOUND is in hex, or `-`. Each form runs REPEATS times, and a line is printed with the shortest of its runs:
  *   FILE FORM keys N ns BEST sum N
  * Rows count the names that the bound admits. The sum is 0 but for pb_step: value, key length and last byte of every key, over all
  * repeats, with wrap, as the Rust's bench has its checksum. */
@@ -40,7 +40,7 @@ typedef struct form {
     uint64_t (*run)(void);
 } form;
 
-static int time_forms(const char *file, const form *forms, int n, int repeats)
+static void time_forms(const char *file, const form *forms, int n, int repeats)
 {
     for (int i = 0; i < n; i++) {
         uint64_t keys = 0;
@@ -56,7 +56,6 @@ static int time_forms(const char *file, const form *forms, int n, int repeats)
         }
         printf("%s %s keys %llu ns %.0f sum %llu\n", file, forms[i].name, (unsigned long long)keys, best, (unsigned long long)sum);
     }
-    return 0;
 }
 
 /* The bound of the command line. */
@@ -92,5 +91,10 @@ int main(int argc, char **argv)
         return 2;
     }
     a.width = by_rows ? (size_t)atoi(argv[3]) : 0;
-    return by_rows ? time_forms(argv[2], test, 1, atoi(argv[4])) : time_forms(argv[2], walks, 2, atoi(argv[3]));
+    if (by_rows) {
+        time_forms(argv[2], test, 1, atoi(argv[4]));
+    } else {
+        time_forms(argv[2], walks, 2, atoi(argv[3]));
+    }
+    return 0;
 }
