@@ -88,7 +88,8 @@ uint8_t pb_place_from(const uint8_t *image, size_t image_len, const uint8_t *cur
                       size_t buf_len, uint8_t *bound, size_t bound_len);
 
 /* One key further. Returns 0, and then out is { 1 for a key or 0 for none, key length, value, moves }, and numbers and buf are those
- * of the walk after the step; the bound is not changed by a step. Else numbers and buf stay as they were, out is { 0, 0, 0, 0 }, or
+ * of the walk after the step; the bound is not changed by a step. After the key that equals an included bound the walk is ended at once:
+ * numbers[PB_STATE] is 3, and the next step says none with 0 moves. Else numbers and buf stay as they were, out is { 0, 0, 0, 0 }, or
  * stays as it was where its length is not 4, and the number is
  *   21  the record is no walk's (lengths other than 74, 256 and 256, numbers[PB_KIND] over 255, numbers[PB_STATE] over 3,
  *       numbers[PB_MODE] over 1), or it is out of range (image length not image_len, depth over 31, offset not 8 * depth, offset plus length over 256, position

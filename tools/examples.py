@@ -1,6 +1,7 @@
 #!/usr/bin/env python3
-"""Writes the requests that crates/walk_table runs, from document 01's surveyed examples, 02's short form and its bound test, those of
-crates/records, from 02 [1] and of the C interface, and those of crates/sheet_table, whose answers are whole sheets.
+"""Writes the requests that crates/walk_table runs, from document 01's surveyed examples, 02's short form, its included end and its
+bound test, those of crates/records, from 02 [1], [12] and of the C interface, and those of crates/sheet_table, whose answers are whole
+sheets.
 
     tools/examples.py > crates/walk_table/stdin
     tools/examples.py records > crates/records/stdin
@@ -9,14 +10,26 @@ crates/records, from 02 [1] and of the C interface, and those of crates/sheet_ta
 A request is a name, a form, the arguments of a placing and an image; for crates/records also what is altered of the walk's record.
 The answers are written by hand in the stdout beside each: keys, values and numbers from 01's and 02's
 words, the samples' keys counted in tools/images.py; moves where 01 gives them, and for 02 one Start for each layer, then as 01
-counts; comparisons counted from 02's words. Nothing here works them out.
+counts, up to the included end and none behind it; comparisons counted from 02's words. Nothing here works them out.
 """
 import sys
 
 from images import COUNT, EDITION, IDENTITY, LENGTH, ROOT, SAMPLES
 from images import changed, in_leaf, layers, nested, one_dead, suffixed, trailer, tree_a, tree_b, two_leaves
-from layout import Leaf, Slot, build, ikey
+from layout import Internode, Leaf, Slot, build, ikey
 from requests import ABOVE, BOUND, CHECK, EXCLUDED, FOREIGN, FROM, INCLUDED, LENT, MOVES, SHORT, TOTAL, UNBOUNDED, request
+
+K8 = b"k" * 8
+
+
+def internode_behind():
+    """Two leaves, but the `next` of the first, which holds a and b, names their internode."""
+    return changed(two_leaves(), "<Q", lambda t: t.children[0].at + 392, 808)
+
+
+def one_suffix():
+    """A key of eight bytes, the same with a suffix m, and one more."""
+    return Leaf(Slot(K8, 1), Slot(K8, 2, suffix=b"m"), Slot(b"l", 3))
 
 
 def surveyed():
@@ -28,7 +41,7 @@ def surveyed():
     request("P4", a, ABOVE, b"ab")
     request("P5", b, FROM, form=MOVES)
     request("P6", b, ABOVE, b"entrance")
-    request("P7", b, FROM, kind=INCLUDED, bound=b"entrance.1")
+    request("P7", b, FROM, kind=INCLUDED, bound=b"entrance.1", form=MOVES)
     request("P8", b, FROM, kind=EXCLUDED, bound=b"entrance.1")
     request("P9", build(Leaf(Slot(b"a", 1), Slot(b"a\0", 2))), ABOVE, b"a")
     request("P10", build(one_dead()), FROM)
@@ -82,16 +95,50 @@ def stepping():
     request("version-bit-29", changed(tree_a(), "<I", in_leaf(0), 1 << 31 | 1 << 29), FROM)
     request("slot-15", changed(tree_a(), "<Q", in_leaf(8), IDENTITY + 3 | 0xF << 4), FROM)
     request("keylenx-9", changed(tree_a(), "<B", in_leaf(136 + 2), 9), ABOVE)
-    request("next-names-internode", changed(two_leaves(), "<Q", lambda t: t.children[0].at + 392, 808), FROM)
+    request("next-names-internode", internode_behind(), FROM)
     request("child-not-below", changed(two_leaves(), "<Q", in_leaf(128 + 8), 808), FROM, b"z")
     request("next-is-itself", changed(Leaf(), "<Q", in_leaf(392), 8), ABOVE)
 
 
+def at_end():
+    """02 [12]: "A walk that hands out the key exactly at its end is ended there; the next call answers none with zero moves." """
+    a, b = build(tree_a()), build(tree_b())
+
+    def to(name, image, end, kind=INCLUDED, form=MOVES, mode=FROM, cursor=b""):
+        request(name, image, mode, cursor, kind=kind, bound=end, form=form)
+
+    to("end-empty", a, b"")
+    to("end-ab", a, b"ab")
+    to("end-aa-not-stored", a, b"aa")
+    to("end-ab-excluded", a, b"ab", EXCLUDED)
+    to("end-above", b, b"entrance.1", mode=ABOVE)
+    to("end-above-itself", b, b"entrance.1", mode=ABOVE, cursor=b"entrance.1")
+    to("lent-P7", b, b"entrance.1", form=LENT)
+    to("end-foreign-length", b, b"entrance.1", form=FOREIGN)
+    # a dead key ends no walk, whether a live one stands behind it or none
+    to("end-dead", build(one_dead()), b"a")
+    to("end-dead-last", build(Leaf(Slot(b"a", 1), Slot(b"b", 2, live=False))), b"b")
+    # the last key of a layer, and of the deepest; of a leaf with another behind it, and with empty ones
+    to("end-of-layer", b, b"entrance.2")
+    to("end-at-depth-31", build(layers(31)), b"x" * 248 + b"k")
+    to("end-of-leaf", build(two_leaves()), b"b")
+    to("end-before-empty-leaves", build(Internode([ikey(b"b"), ikey(b"c")], Leaf(Slot(b"a", 1)), Leaf(), Leaf())), b"a")
+    # a key with a suffix, the same without it, and the longest
+    to("end-with-suffix", build(one_suffix()), K8 + b"m")
+    to("end-before-suffix", build(one_suffix()), K8)
+    to("end-of-256", build(suffixed(248)), b"12345678" + b"s" * 248)
+    # "over any image": what stands behind the end is not read; without a bound it meets 22
+    keylenx = changed(tree_a(), "<B", in_leaf(136 + 2), 9)
+    for name, image, end in (("internode", internode_behind(), b"b"), ("keylenx-9", keylenx, b"a")):
+        to("end-before-" + name, image, end)
+        to("end-before-" + name + "-unbounded", image, b"", UNBOUNDED)
+        to("end-before-" + name + "-check", image, b"", UNBOUNDED, CHECK)
+
+
 # The numbers of a record that are altered below, by their index.
-LAYER_ROOT, OFFSET, LEN, IKEY, DEPTH, STATE, MODE, STACK = 1, 4, 5, 6, 7, 10, 11, 12
-START, RETRY = 0, 1
+LAYER_ROOT, LEAF, POSITION, OFFSET, LEN, IKEY, DEPTH, KIND, BOUND_LEN, STATE, MODE, STACK = range(1, 13)
+START, RETRY, FIND_NEXT = range(3)
 BUFFER = 256
-K8 = b"k" * 8
 
 
 def resume(name, tree, mode, cursor, changes=None, **more):
@@ -119,7 +166,7 @@ def whole_names():
     zeros = b"ab" + bytes(6)
     resume("layer-behind-inline", Leaf(Slot(b"ab", 1), Slot(zeros, 2), Slot(zeros, sub=Leaf(Slot(b"x", 3)))), FROM, zeros + b"x")
     # a suffix below the cursor, equal to it, and above it; an inline key of the cursor's ikey is below it
-    suffix = Leaf(Slot(K8, 1), Slot(K8, 2, suffix=b"m"), Slot(b"l", 3))
+    suffix = one_suffix()
     for mode, word in ((FROM, "from"), (ABOVE, "above")):
         resume(f"suffix-below-{word}", suffix, mode, K8 + b"n")
         resume(f"suffix-equal-{word}", suffix, mode, K8 + b"m")
@@ -184,6 +231,34 @@ def whole_names_altered():
     resume("length-257", a, FROM, b"a", {LEN: 257})
 
 
+def at_end_records():
+    """02 [12] over the C interface: each step with its moves, walks whose record the caller altered, and the tally."""
+    a, b = tree_a(), tree_b()
+    one = {"kind": INCLUDED, "bound": b"entrance.1"}
+    resume("end-P7", b, FROM, b"", **one)
+    resume("end-above-itself", b, ABOVE, b"entrance.1", **one)
+    resume("end-ab", a, FROM, b"", kind=INCLUDED, bound=b"ab")
+    resume("end-aa-not-stored", a, FROM, b"", kind=INCLUDED, bound=b"aa")
+    resume("end-dead", Leaf(Slot(b"a", 1), Slot(b"b", 2, live=False), Slot(b"c", 3)), FROM, b"", kind=INCLUDED, bound=b"b")
+    resume("end-with-suffix", one_suffix(), FROM, b"", kind=INCLUDED, bound=K8 + b"m")
+    resume("end-of-leaf", two_leaves(), FROM, b"", kind=INCLUDED, bound=b"b")
+    resume("end-before-internode", internode_behind(), FROM, b"", kind=INCLUDED, bound=b"b")
+    resume("end-before-internode-unbounded", internode_behind(), FROM, b"")
+    # the kind alone tells whether there is an included end, and the bound's length where it is
+    resume("end-kind-1-to-0", b, FROM, b"", {KIND: UNBOUNDED}, **one)
+    resume("end-kind-1-to-2", b, FROM, b"", {KIND: EXCLUDED}, **one)
+    resume("end-kind-2-to-1", b, FROM, b"", {KIND: INCLUDED}, kind=EXCLUDED, bound=b"entrance.1")
+    resume("end-kind-0-to-1", a, FROM, b"", {KIND: INCLUDED})
+    resume("end-length-to-8", b, FROM, b"", {BOUND_LEN: 8}, **one)
+    resume("end-length-to-11", b, FROM, b"", {BOUND_LEN: 11}, **one)
+    resume("end-length-11-to-10", b, FROM, b"", {BOUND_LEN: 10}, kind=INCLUDED, bound=b"entrance.15")
+    # a walk put right before its end
+    resume("end-is-next", a, FROM, b"", {LEAF: 8, POSITION: 2, STATE: FIND_NEXT}, kind=INCLUDED, bound=b"ab")
+    for name, tree, end in (("empty", a, b""), ("a", a, b"a"), ("aa-not-stored", a, b"aa"), ("of-layer", b, b"entrance.2"),
+                            ("dead", one_dead(), b"a"), ("b", one_dead(), b"b")):
+        resume("end-tally-" + name, tree, ABOVE, b"", kind=INCLUDED, bound=end, form=TOTAL)
+
+
 def over_c():
     """The check and the tally over the C interface, with the numbers of each and which is tried first."""
     a, b = build(tree_a()), build(tree_b())
@@ -226,7 +301,8 @@ def sheets():
 
 
 def bounds():
-    """02 [4]: "one for each eight and each single byte through the first that differs". A key, and the bound's."""
+    """02 [12]: "The bound test shall tell inside, exactly at the included end, and past." 02 [4]: "one for each eight and each
+    single byte through the first that differs". A key, and the bound's."""
 
     def test(name, key, bound, kind):
         request(name, b"", ABOVE, key, kind=kind, bound=bound, form=BOUND)
@@ -278,12 +354,14 @@ def main():
         placing()
         short_form()
         stepping()
+        at_end()
         whole()
         bounds()
     elif sys.argv[1:] == ["records"]:
         whole_names()
         whole_names_any_image()
         whole_names_altered()
+        at_end_records()
         over_c()
     elif sys.argv[1:] == ["sheets"]:
         sheets()

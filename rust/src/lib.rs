@@ -216,7 +216,8 @@ impl Walk {
         Ok(walk)
     }
 
-    /// One key further, over the image that the walk was placed over. A declined step leaves the walk as it was.
+    /// One key further, over the image that the walk was placed over. A declined step leaves the walk as it was. With the key of an included
+    /// bound the walk is ended at once, and the next step finds none in 0 moves.
     pub fn step(&mut self, image: &[u8]) -> Result<Step, Declined> {
         let mut out = [0u64; 4];
         // SAFETY: as in `place`.

@@ -1,5 +1,5 @@
-/* The five functions as guard.c calls them: each at both sides over equal bytes, its answer held to what documents 01 and 02 [1]
- * and the header say of it. A call must return and leave the same at both sides, its number must be one that 01 has for it, and
+/* The five functions as guard.c calls them: each at both sides over equal bytes, its answer held to what documents 01 and 02 ([1],
+ * [12]) and the header say of it. A call must return and leave the same at both sides, its number must be one that 01 has for it, and
  * where it is declined, the zeros must be there that it says then, and all else that it was lent must stay as it was. */
 #ifndef CALLS_H
 #define CALLS_H
@@ -30,6 +30,9 @@ struct walk {
     uint8_t buf[264], bound[264];
     size_t numbers_len, buf_len, bound_len;
 };
+
+/* Its states. */
+enum { START, RETRY, FIND_NEXT, ENDED };
 
 #define SIZED {.numbers_len = PB_NUMBERS, .buf_len = PB_BUFFER, .bound_len = PB_BUFFER}
 
@@ -69,11 +72,11 @@ static struct {
 
 static void count_start(const uint64_t *before, const uint64_t *after, int code)
 {
-    if (code != 21 && before[10] == 0 && before[5] > 8) {
+    if (code != 21 && before[PB_STATE] == START && before[PB_LEN] > 8) {
         starts.all++;
-        starts.below += before[7] > 0;
-        starts.deeper += after[7] > before[7];
-        starts.deepest += after[7] > before[7] && after[7] == 31;
+        starts.below += before[PB_DEPTH] > 0;
+        starts.deeper += after[PB_DEPTH] > before[PB_DEPTH];
+        starts.deepest += after[PB_DEPTH] > before[PB_DEPTH] && after[PB_DEPTH] == 31;
         starts.declined += code != 0;
     }
 }
@@ -116,7 +119,7 @@ static void placed(struct walk *w, int code, int from, const struct ask *a)
         return;
     }
     blank(w);
-    w->numbers[PB_STATE] = 3;
+    w->numbers[PB_STATE] = ENDED;
     if (code != 0) {
         return;
     }
@@ -126,7 +129,7 @@ static void placed(struct walk *w, int code, int from, const struct ask *a)
     w->numbers[PB_IKEY] = ikey_of(a->cursor, a->cursor_len);
     w->numbers[PB_KIND] = a->kind;
     w->numbers[PB_BOUND_LEN] = a->kind ? a->key_len : 0;
-    w->numbers[PB_STATE] = from || a->cursor_len > 8 ? 0 : 1;
+    w->numbers[PB_STATE] = from || a->cursor_len > 8 ? START : RETRY;
     w->numbers[PB_MODE] = from;
     memcpy(w->buf, a->cursor, a->cursor_len);
     memcpy(w->bound, a->key, a->kind ? a->key_len : 0);
@@ -162,11 +165,19 @@ static int is_foreign(const struct walk *w, size_t out_len)
     if (out_len != 4 || !is_sized(w)) {
         return 1;
     }
-    return n[PB_STATE] > 3 || n[PB_MODE] > 1 || n[PB_IMAGE_LEN] != image_len || n[PB_DEPTH] > 31 || n[PB_OFFSET] != 8 * n[PB_DEPTH]
-           || n[PB_LEN] > 256 - n[PB_OFFSET] || n[PB_POSITION] > 15 || n[PB_KIND] > 2 || n[PB_BOUND_LEN] > 256;
+    return n[PB_STATE] > ENDED || n[PB_MODE] > 1 || n[PB_IMAGE_LEN] != image_len || n[PB_DEPTH] > 31
+           || n[PB_OFFSET] != 8 * n[PB_DEPTH] || n[PB_LEN] > 256 - n[PB_OFFSET] || n[PB_POSITION] > 15 || n[PB_KIND] > 2
+           || n[PB_BOUND_LEN] > 256;
 }
 
-static int step(struct walk *w, uint64_t out[8], size_t out_len)
+/* Whether the key that a step handed out is exactly at the walk's included end. */
+static int is_at_end(const struct walk *w, size_t key_len)
+{
+    const uint64_t *n = w->numbers;
+    return n[PB_KIND] == PB_INCLUDED && key_len == n[PB_BOUND_LEN] && memcmp(w->buf, w->bound, key_len) == 0;
+}
+
+static int one_step(struct walk *w, uint64_t out[8], size_t out_len)
 {
     struct walk after[SIDES] = {*w, *w};
     uint64_t said[SIDES][8];
@@ -197,15 +208,42 @@ static int step(struct walk *w, uint64_t out[8], size_t out_len)
     } else {
         const uint64_t *s = said[0];
         must(s[0] <= 1 && s[1] <= 256 && s[3] <= image_len, "what a step said");
-        must(s[0] == 1 || (s[1] == 0 && s[2] == 0 && after[0].numbers[PB_STATE] == 3), "none, and the walk is not ended");
-        must(s[0] == 0 || after[0].numbers[PB_STATE] == 2, "a key, and the walk is not to find the next");
-        must(w->numbers[PB_STATE] != 3 || (s[0] == 0 && s[3] == 0 && memcmp(&after[0], w, sizeof *w) == 0), "an ended walk moved");
+        uint64_t now = after[0].numbers[PB_STATE];
+        int end = s[0] == 1 && is_at_end(&after[0], s[1]);
+        must(s[0] == 1 || (s[1] == 0 && s[2] == 0 && now == ENDED), "none, and the walk is not ended");
+        must(!end || now == ENDED, "the included end, and the walk is not ended");
+        must(s[0] == 0 || end || now == FIND_NEXT, "another key, and the walk is not to find the next");
+        must(w->numbers[PB_STATE] != ENDED || (s[0] == 0 && s[3] == 0 && memcmp(&after[0], w, sizeof *w) == 0),
+             "an ended walk moved");
     }
     count_start(w->numbers, after[0].numbers, code[0]);
     *w = after[0];
     memcpy(out, said[0], sizeof said[0]);
     met[STEPS][code[0]]++;
     return code[0];
+}
+
+/* Whether the image is one of the pack's, and the included ends handed out over such images and over others. */
+static int is_whole;
+static struct {
+    ull whole, other;
+} ends;
+
+/* A step. Where it hands out the walk's included end, one more says none, without a move, and leaves the record to the byte. */
+static int step(struct walk *w, uint64_t out[8], size_t out_len)
+{
+    int code = one_step(w, out, out_len);
+    if (code == 0 && out[0] == 1 && is_at_end(w, out[1])) {
+        static const uint64_t none[4] = {0};
+        struct walk again = *w;
+        uint64_t said[8];
+        memset(said, 255, sizeof said);
+        must(one_step(&again, said, 4) == 0 && memcmp(said, none, sizeof none) == 0, "a step behind the included end");
+        must(memcmp(&again, w, sizeof again) == 0, "a step behind the included end changed the record");
+        ends.whole += is_whole;
+        ends.other += !is_whole;
+    }
+    return code;
 }
 
 static int tally(int checked, const struct ask *a, uint64_t out[2], size_t out_len)

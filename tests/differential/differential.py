@@ -6,10 +6,11 @@
 
 Needs target/oracle/bin/oracle, the Rust's scan made runnable over images (oracle/build.sh), and target/bin/replay, the proved
 program (`rt check replay`). Both get the same images, accepted and damaged, cursors and bounds; every answer is compared: key,
-value, moves, and the whole walk after each call (position, leaf, root, cursor, buffer, stack). Accepted are the images that the
-port's check takes with the numbers that the builder knows; over these the keys, and the layers that a long cursor leads into, are
-held against the builder's own as well. Up to eight bytes of cursor, above it, the Rust's loop makes the whole walk; else the Start
-moves are the oracle's, written by hand. `run` does all of it.
+value, moves, and the whole walk after each call (position, leaf, root, cursor, buffer, stack). One difference is due and no other:
+a walk that hands out its included end is ended there, where the Rust moves on (`stopped`). Accepted are the images that the port's
+check takes with the numbers that the builder knows; over these the keys, and the layers that a long cursor leads into, are held
+against the builder's own as well. Up to eight bytes of cursor, above it, the Rust's loop makes the whole walk; else the Start moves
+are the oracle's, written by hand. `run` does all of it.
 """
 import argparse
 import collections
@@ -26,7 +27,7 @@ sys.path.insert(0, os.path.join(TOP, "tools"))
 import layout
 import shapes
 import trees
-from requests import ABOVE, CHECK, FROM, STATES, UNBOUNDED, encode
+from requests import ABOVE, CHECK, FROM, INCLUDED, STATES, UNBOUNDED, encode
 
 BATCH = 100                 # images for one run of the program
 MOST = 64000                # the longest image, a little under what the program reads
@@ -82,6 +83,30 @@ def port(form, walks):
     requests = b"".join(request(i, form, w) for i, w in enumerate(walks))
     out = subprocess.run([program], input=requests, stdout=subprocess.PIPE, check=True).stdout.decode()
     return out.split("\n")[:-1] if form == CHECK else [part.split("\n") for part in out.split("\n\n")[:-1]]
+
+
+def moves_in(line):
+    """The moves of a key's line, or of a none's."""
+    words = line.split()
+    return int(words[words.index("moves") + 1])
+
+
+def stopped(w, lines):
+    """The lines that are due, by the Rust's own; and what the Rust has behind the included end, or None where that is not out. 02
+    [12]: "A walk that hands out the key exactly at its end is ended there; the next call answers none with zero moves." So the lines
+    are the Rust's up to and with the first key that is the included bound; then come one none, with the walk as after that key, and
+    the moves so far."""
+    end = f"key {w.bound.hex() or '-'} "
+    at = next((i for i, line in enumerate(lines, 1) if w.kind == INCLUDED and line.startswith(end)), None)
+    if at is None:
+        return lines, None
+    walk = lines[at - 1][lines[at - 1].index(" pos "):]
+    return lines[:at] + ["none moves 0" + walk, f"total {sum(map(moves_in, lines[:at]))}"], lines[at:]
+
+
+def spared(behind):
+    """The moves of the Rust's none behind the included end; 0 where it says anything else there."""
+    return moves_in(behind[0]) if len(behind) == 2 and behind[0].startswith("none ") else 0
 
 
 def damage(r, image):
@@ -243,6 +268,7 @@ class Comparison:
         self.lengths, self.cursors = set(), set()
         self.shapes, self.sorts, self.packed = collections.Counter(), collections.Counter(), collections.Counter()
         self.modes, self.starts = collections.Counter(), collections.Counter()
+        self.ends = collections.Counter()
         self.pack = []
 
     def differs(self, what, w):
@@ -263,7 +289,8 @@ class Comparison:
             self.packed.update(look.shapes)
             self.pack.append((image, look))
 
-    def walk(self, w, got, want, start):
+    def walk(self, w, got, lines, start):
+        want, behind = stopped(w, lines)
         keys = [line.split()[1] for line in want if line.startswith("key")]
         self.keys += len(keys)
         self.lengths.update(len(k.strip("-")) // 2 for k in keys)
@@ -275,9 +302,14 @@ class Comparison:
             layers, stood = start
             self.starts[w.mode, "no layer" if layers == 0 else "1" if layers == 1 else "2 to 30" if layers < 31 else "31"] += 1
             self.starts[w.mode, "fault"] += not stood
+        if behind is not None:
+            self.ends["accepted" if w.look else "damaged"] += 1
+            self.ends["moves"] += spared(behind) if w.look else 0
         if got != want:
             a, b = next((a, b) for a, b in zip(want + [""], got + [""]) if a != b)
-            self.differs(f"Rust {a}\n  port {b}", w)
+            self.differs(f"due  {a}\n  port {b}", w)
+        elif w.look and behind is not None and spared(behind) == 0:
+            self.differs(f"behind the included end the Rust has {behind}", w)
         elif w.look and keys != [k.hex() or "-" for k in due(w)]:
             self.differs("keys other than the builder's", w)
         elif w.look and past and start != (led(w), True):
@@ -295,6 +327,8 @@ class Comparison:
             into = ", ".join(f"{n}: {self.starts[mode, n]}" for n in ("no layer", "1", "2 to 30", "31"))
             print(f"  cursors past eight bytes: {name} {self.modes[True, mode]}; Start led into {into}; met a fault in "
                   f"{self.starts[mode, 'fault']}")
+        print(f"  ended at the included end: {self.ends['accepted']} walks over accepted images, where the Rust makes "
+              f"{self.ends['moves']} moves more, and {self.ends['damaged']} over damaged ones")
         walks = "walks: " + ", ".join(f"{name} {n}" for name, n in sorted(self.sorts.items()))
         print(textwrap.fill(walks, 120, initial_indent="  ", subsequent_indent="    "))
         print(f"  accepted images: {self.images}; of these with")
@@ -355,7 +389,8 @@ def common_walks(r, most):
 
 
 def store(folder):
-    """400 walks over small images: 150 in one layer, 130 through layers, 90 that meet a fault, 30 damaged that do not."""
+    """400 walks over small images: 150 in one layer, 130 through layers, 90 that meet a fault, 30 damaged that do not, all by the
+    Rust's own lines; those stored stop at the included end."""
     oracle = Oracle()
     want = {"plain": 150, "layers": 130, "fault": 90, "damaged": 30}
     requests, answers = [], []
@@ -369,7 +404,7 @@ def store(folder):
             continue
         want[sort] -= 1
         requests.append(request(len(requests), STATES, w))
-        answers.append("\n".join(lines) + "\n\n")
+        answers.append("\n".join(stopped(w, lines)[0]) + "\n\n")
         if not any(want.values()):
             break
     with open(os.path.join(folder, "stdin"), "wb") as f:

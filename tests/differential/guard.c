@@ -127,7 +127,7 @@ static void put_start(struct walk *w, uint64_t depth, int from)
     n[PB_OFFSET] = 8 * depth;
     n[PB_LEN] = whole - n[PB_OFFSET];
     n[PB_IKEY] = ikey_of(w->buf + n[PB_OFFSET], n[PB_LEN]);
-    n[PB_STATE] = 0;
+    n[PB_STATE] = START;
     n[PB_MODE] = (uint64_t)from;
 }
 
@@ -314,7 +314,7 @@ static void alter_start(struct walk *w, const struct picture *p)
             n[PB_LEN] = draw_key(p, w->buf + n[PB_OFFSET], 256 - n[PB_OFFSET]);
         }
         n[PB_IKEY] = below(4) ? ikey_of(w->buf + n[PB_OFFSET], 8) : draw_number(n, PB_IKEY, p);
-        n[PB_STATE] = 0;
+        n[PB_STATE] = START;
         n[PB_MODE] = draw_number(n, PB_MODE, p);
     }
     if (below(4) == 0) {
@@ -395,6 +395,13 @@ static void altered_walk(const struct picture *p)
     }
 }
 
+/* A picture's image, or what a round has made of it. */
+static void show_of(const struct picture *p, size_t len)
+{
+    show(len);
+    is_whole = len == p->len && memcmp(image, p->bytes, len) == 0;
+}
+
 enum { WHOLE, DAMAGED, LENGTHS, BYTES, ALTERED, SORTS };
 
 static int one_round(void)
@@ -405,7 +412,7 @@ static int one_round(void)
     memcpy(image, p->bytes, len);
     switch (sort) {
     case WHOLE:
-        show(len);
+        show_of(p, len);
         must(check(counts, 3) == 0, "an accepted image is declined");
         whole(p, counts);
         break;
@@ -413,7 +420,7 @@ static int one_round(void)
         for (uint64_t n = 1 + below(4); n > 0; n--) {
             damage(p);
         }
-        show(len);
+        show_of(p, len);
         everything(p);
         break;
     case LENGTHS: {
@@ -425,7 +432,7 @@ static int one_round(void)
         if (below(2)) {
             mend(len);
         }
-        show(len);
+        show_of(p, len);
         everything(p);
         break;
     }
@@ -439,14 +446,14 @@ static int one_round(void)
             put(image + len - TRAILER, 8 * below(len / 8 - 50), 8);
             put(image + word(image + len - TRAILER), ONE_OF(0, 1ull << 31), 4);
         }
-        show(len);
+        show_of(p, len);
         everything(p);
         break;
     default:
         for (uint64_t n = below(2) ? below(4) : 0; n > 0; n--) {
             damage(p);
         }
-        show(len);
+        show_of(p, len);
         altered_walk(p);
     }
     unchanged();
@@ -513,6 +520,8 @@ int main(int argc, char **argv)
     printf("  Start with more than eight bytes left: %llu steps, %llu of them below the root layer; %llu came to a deeper layer, "
            "%llu to the deepest, %llu were declined\n",
            starts.all, starts.below, starts.deeper, starts.deepest, starts.declined);
+    printf("  included ends handed out, each with one step more: %llu over whole images, %llu over others\n", ends.whole,
+           ends.other);
     printf("  pages resumed: %llu, %llu of them in a sub-layer; %llu keys\n", pages, pages_below, page_keys);
     printf("  %llu calls, each made twice; no signal, nothing amiss\n", calls);
 

@@ -1,7 +1,7 @@
 -- Calls of `pb_step` follow steps of the walk that the record reads back as. Proved: what a call that meets its contract leaves is `cStep`'s;
 -- that what a list of calls says and costs is what the steps say and cost; and that the calls that step no walk change nothing. A call with
 -- no room for the answer follows a step that is lent another length.
-use Rattle.base.specs.Kit.{_≡_, refl, ap, ap₂, sym, _∙_, true, false, not, and-true, and-false, List, [], _∷_, _⊎_, inr, ℕ, _+_, arith, eqb, length, take, eqb-true, eqb-false, eq-eqb, ne-eqb}
+use Rattle.base.specs.Kit.{_≡_, refl, ap, ap₂, sym, _∙_, Bool, true, false, not, and-true, and-false, List, [], _∷_, _⊎_, inr, ℕ, _+_, arith, eqb, length, take, eqb-true, eqb-false, eq-eqb, ne-eqb}
 use Rattle.base.specs.Pick.{pick}
 use Rattle.base.proofs.Choice.{pick-ind, by-test}
 use Rattle.walk.specs.Walk.{numberOf, walkOk, answerNumbers}
@@ -16,12 +16,12 @@ use Rattle.c_demands.specs.Types.{Answer, Key, Nothing, Declined, Steppe
 use Rattle.c_demands.specs.CDemand.{CCall, CLeft, cStep, cSteps, Kept, CLent, isMade, made, cSaidBy, cSaid, cMovesBy, cMovesOf, Untouched, CForeign}
 
 -- A declined step has made no move, and its walk is as it came.
-stays-by : (w : Walk) (a : Answer) (moves : ℕ) (s : Scan) → (numberOf (stepped w a moves s .answer) ≡ 0 → ⊥)
-    → (stepped w a moves s .moves ≡ 0) × (stepped w a moves s .walk ≡ w)
+stays-by : (w : Walk) (a : Answer) (last : Bool) (moves : ℕ) (s : Scan) → (numberOf (stepped w a last moves s .answer) ≡ 0 → ⊥)
+    → (stepped w a last moves s .moves ≡ 0) × (stepped w a last moves s .walk ≡ w)
 unfolding numberOf
-stays-by w (Key len value) moves s h = absurd (h refl)
-stays-by w Nothing moves s h = absurd (h refl)
-stays-by w (Declined n) moves s h = (refl, refl)
+stays-by w (Key len value) last moves s h = absurd (h refl)
+stays-by w Nothing last moves s h = absurd (h refl)
+stays-by w (Declined n) last moves s h = (refl, refl)
 
 stays : (w : Walk) (image : List ℕ) → (numberOf (step w image .answer) ≡ 0 → ⊥) → (step w image .moves ≡ 0) × (step w image .walk ≡ w)
 unfolding step advance finished
@@ -31,7 +31,7 @@ stays w image =
     (λ f. pick-ind P (isEnded (w .state)) (λ t h. (refl, refl))
     (λ g.
     let r = run image (w .bound .kind) (take (w .bound .len) (w .bound .key)) (length image) 0 (scanOf w) in
-    stays-by w (r .answer) (r .moves) (r .scan)))
+    stays-by w (r .answer) (r .last) (r .moves) (r .scan)))
 
 -- What a step that is taken leaves.
 abbrev leftBy : Stepped → CLeft

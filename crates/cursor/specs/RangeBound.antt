@@ -7,14 +7,14 @@ use Rattle.key.specs.declared.Ordering.{Ordering}
 use Rattle.key.specs.declared.Ordering.the-variants.{Less, Equal, Greater}
 use Rattle.cursor.specs.declared.range_bound.RangeBound.{RangeBound}
 use Rattle.cursor.specs.declared.range_bound.Side.{Side}
-use Rattle.cursor.specs.declared.range_bound.Side.the-variants.{Inside, Past}
+use Rattle.cursor.specs.declared.range_bound.Side.the-variants.{Inside, AtEnd, Past}
 use Rattle.cursor.specs.declared.range_bound.Tested.{Tested}
 
--- The side on which a bound of kind 1 or 2 has a key, by the key's order to the bound's: below it inside, and the bound's own key where
--- it is included.
+-- The side on which a bound of kind 1 or 2 has a key, by the key's order to the bound's (02 [12]: "The bound test shall tell inside, exactly
+-- at the included end, and past").
 unfoldable pub sideOf : ℕ → Ordering → Side
 sideOf kind Less = Inside
-sideOf kind Equal = pick (eqb kind 1) Inside Past
+sideOf kind Equal = pick (eqb kind 1) AtEnd Past
 sideOf kind Greater = Past
 
 -- The bound test (02 [4]: "Its answer is proved to be plain byte order's, and it returns its comparisons too"): a key compared with the
@@ -24,14 +24,24 @@ tested kind bound key =
     let c = compared key bound in
     pick (eqb kind 0) (record { side = Inside; comparisons = 0 }) (record { side = sideOf kind (c .order); comparisons = c .comparisons })
 
--- The side whose keys a walk hands out.
+-- The sides whose keys a walk hands out, and the one whose key is its last.
 unfoldable pub isWithin : Side → Bool
 isWithin Inside = true
+isWithin AtEnd = true
 isWithin Past = false
+
+unfoldable pub isLast : Side → Bool
+isLast Inside = false
+isLast AtEnd = true
+isLast Past = false
 
 -- Whether a key lies within a bound.
 unfoldable pub contains : ℕ → List ℕ → List ℕ → Bool
 contains kind bound key = isWithin (tested kind bound key .side)
+
+-- Whether a key is exactly at the included end.
+unfoldable pub atEnd : ℕ → List ℕ → List ℕ → Bool
+atEnd kind bound key = isLast (tested kind bound key .side)
 
 -- The bound that a placing keeps ("13: bound key over 256 bytes, for kind 0 too, whose bound is then kept as length 0";
 -- "Buffers are zero past what they hold").

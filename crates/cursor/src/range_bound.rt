@@ -16,9 +16,10 @@ pub struct RangeBound {
     pub key: [u8; 256],
 }
 
-// On which side of a bound a key lies.
+// On which side of a bound a key lies; the included end is a side of its own.
 pub enum Side {
     Inside,
+    AtEnd,
     Past,
 }
 
@@ -55,7 +56,7 @@ fn side_of(kind: u8, order: Ordering) -> Side
         Ordering::Less => Side::Inside,
         Ordering::Equal => {
             if kind == 1 {
-                return Side::Inside;
+                return Side::AtEnd;
             }
             Side::Past
         }
@@ -89,6 +90,7 @@ pub fn contains(kind: u8, bound: &[u8], key: &[u8]) -> bool
     let side = t.side;
     match side {
         Side::Inside => true,
+        Side::AtEnd => true,
         Side::Past => false,
     }
 }

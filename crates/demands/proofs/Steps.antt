@@ -5,10 +5,13 @@ use Rattle.base.specs.Kit.{_≡_, refl, ap, sym, _∙_, subst, List, [], _∷_,
 use Rattle.base.specs.Pick.{pick}
 use Rattle.cursor.specs.RangeBound.{contains}
 use Rattle.demands.specs.Types.{RangeBound, Ended, Walk, Nothing, Declined, Stepped}
-use Rattle.layering.proofs.Sieve.{front}
+use Rattle.layering.specs.Ascending.{Ascending}
+use Rattle.layering.proofs.Sieve.{front, front-passes}
+use Rattle.layering.proofs.Bound.{end-is-last}
 use Rattle.layering.proofs.Walk.{Conf, over, rest, left, pot}
 use Rattle.moves.specs.CodeMoves.{InRange}
 use Rattle.walk.specs.Walk.{numberOf, keysOf, lenOf, valueOf, walkOk}
+use Rattle.walk.proofs.NumberLaws.{fits-walk}
 use Rattle.scan.specs.Machine.{Ran, run, isEnded, ctxOf, scanOf, finished, advance, step}
 use Rattle.scan.specs.CodeLoop.{runBy, allBy, keysAhead, keysLeft}
 use Rattle.lent.proofs.Same.{step-as}
@@ -39,6 +42,7 @@ module _ (image : List ℕ) (B : RangeBound) where
     pub same-bound : w .bound ≡ B
     pub fit : InRange (w .depth) (ctxOf w)
     pub stage : Stage w c
+    pub ascends : Ascending (left (admitted B) c)
 
   -- What a step of it comes to: the head of what was left is said and its tail is left, and the potential pays for the
   -- moves.
@@ -50,89 +54,108 @@ module _ (image : List ℕ) (B : RangeBound) where
     pub cost : t .moves + pot to ≤ pot c
 
   module _ (kind-ok : B .kind ≤ 2) (len-ok : B .len ≤ 256) where
-    walk-ok : (w : Walk) (c : Conf) → Walks w c → walkOk w (length image) ≡ true
-    unfolding walkOk
+    pub walk-ok : (w : Walk) (c : Conf) → Walks w c → walkOk w (length image) ≡ true
     walk-ok w c h =
-        rw (
-          eq-eqb (w .«image_len») (length image) (h .same-length),
-          le-leb (w .depth) 31 (h .fit .deep),
-          eq-eqb (w .cursor .offset) (8 * w .depth) (h .fit .place),
-          le-leb (w .cursor .offset + w .cursor .len) 256 (h .fit .within),
-          le-leb (w .position .0) 15 (h .fit .position),
-          le-leb (w .bound .kind) 2 (subst (λ (z : RangeBound). z .kind ≤ 2) (sym (h .same-bound)) kind-ok),
-          le-leb (w .bound .len) 256 (subst (λ (z : RangeBound). z .len ≤ 256) (sym (h .same-bound)) len-ok),
-        )
+        fits-walk w (length image)
+        (record {
+          length-is = h .same-length;
+          depth-fits = h .fit .deep;
+          offset-is = h .fit .place;
+          end-fits = h .fit .within;
+          position-fits = h .fit .position;
+          kind-fits = subst (λ (z : RangeBound). z .kind ≤ 2) (sym (h .same-bound)) kind-ok;
+          bound-fits = subst (λ (z : RangeBound). z .len ≤ 256) (sym (h .same-bound)) len-ok;
+        })
 
-    -- a run is over
-    finishes : (w : Walk) (c : Conf) → w .«image_len» ≡ length image → w .bound ≡ B → {r : Ran}
+    -- a run is over: with a key, which at the included end is the last that is left; or with none
+    finishes : (w : Walk) (c : Conf) → w .«image_len» ≡ length image → w .bound ≡ B → Ascending (left (admitted B) c) → {r : Ran}
         → Came image (B .kind) (take (B .len) (B .key)) c 0 r → Paid c (finished w r)
-    unfolding finished saidBy numberOf keysOf lenOf valueOf pick headSaid tailOf scanOf resumed left rest front pot
-    finishes w c a b (out x c′ n s e h fit rep key) = record {
+    unfolding finished saidBy numberOf keysOf lenOf valueOf pick headSaid tailOf scanOf resumed left rest front pot Ascending
+    finishes w c a b asc (out x c′ false n s e m h fit rep key at) = record {
       to = c′;
       walks = record {
         same-length = a;
         same-bound = b;
         fit = record { place = fit .place; deep = fit .deep; within = fit .within; position = fit .position };
         stage = going refl rep;
+        ascends = subst Ascending e asc .1;
       };
       head = ap (λ (t : List ℕ). handsOut (record { key = t; value = x .value })) (sym key) ∙ ap headSaid (sym e);
       tail = ap tailOf (sym e);
       cost = omega arith;
     }
-    finishes w c a b (end n s e h fit) = record {
+    finishes w c a b asc (out x c′ true n s e m h fit rep key at) = record {
       to = over;
       walks = record {
         same-length = a;
         same-bound = b;
         fit = record { place = fit .place; deep = fit .deep; within = fit .within; position = fit .position };
         stage = ended refl;
+        ascends = tt;
+      };
+      head = ap (λ (t : List ℕ). handsOut (record { key = t; value = x .value })) (sym key) ∙ ap headSaid (sym e);
+      tail = sym (end-is-last (B .kind) (take (B .len) (B .key)) x (left (admitted B) c′) (subst Ascending e asc) (front-passes (admitted B) (rest c′)) (sym at)) ∙ ap tailOf (sym e);
+      cost = omega arith;
+    }
+    finishes w c a b asc (end n s e m h fit) = record {
+      to = over;
+      walks = record {
+        same-length = a;
+        same-bound = b;
+        fit = record { place = fit .place; deep = fit .deep; within = fit .within; position = fit .position };
+        stage = ended refl;
+        ascends = tt;
       };
       head = ap headSaid (sym e);
       tail = ap tailOf (sym e);
       cost = omega arith;
     }
 
-    -- A STEP
-    pays-in : (w : Walk) (c : Conf) → w .«image_len» ≡ length image → w .bound ≡ B → InRange (w .depth) (ctxOf w)
-        → pot c ≤ length image → Stage w c
-        → Paid c (pick (isEnded (w .state)) (record { answer = Nothing; moves = 0; walk = w }) (advance w image))
-    unfolding advance saidBy numberOf keysOf headSaid tailOf left rest front pot pick
-    pays-in w c a b fit k (ended e) =
-        rw (ap isEnded e)
-        (record {
+    -- A STEP is none where the walk is ended, and else what its run comes to.
+    module _ (w : Walk) (c : Conf) (h : Walks w c) (k : pot c ≤ length image) (P : Stepped → Type 0)
+        (none : w .state ≡ Ended → c ≡ over → P (record { answer = Nothing; moves = 0; walk = w }))
+        (runs : isEnded (w .state) ≡ false → (r : Ran) → Came image (B .kind) (take (B .len) (B .key)) c 0 r → P (finished w r)) where
+      in-stage : (d : Conf) → c ≡ d → Stage w d → P (pick (isEnded (w .state)) (record { answer = Nothing; moves = 0; walk = w }) (advance w image))
+      unfolding advance pick
+      in-stage d q (ended e) = rw (ap isEnded e) (none e q)
+      in-stage d q (going e rep) =
+          rw e
+          (subst (λ (z : RangeBound). P (finished w (run image (z .kind) (take (z .len) (z .key)) (length image) 0 (scanOf w)))) (sym (h .same-bound))
+          (runs e _ (comes image (B .kind) (take (B .len) (B .key)) (length image) 0 (scanOf w) c (subst (Rep image (B .kind) (take (B .len) (B .key)) (scanOf w)) (sym q) rep) k)))
+
+      pub by-step : P (step w image)
+      unfolding step pick
+      by-step = rw (walk-ok w c h) (in-stage c refl (h .stage))
+
+    pub pays : (w : Walk) (c : Conf) → Walks w c → pot c ≤ length image → Paid c (step w image)
+    unfolding saidBy numberOf keysOf headSaid tailOf left rest front pot pick Ascending
+    pays w c h k =
+        by-step w c h k (Paid c)
+        (λ e o. rw o (record {
           to = over;
-          walks = record { same-length = a; same-bound = b; fit = fit; stage = ended e };
+          walks = record { same-length = h .same-length; same-bound = h .same-bound; fit = h .fit; stage = ended e; ascends = tt };
           head = refl;
           tail = refl;
           cost = omega arith;
-        })
-    pays-in w c a b fit k (going e rep) =
-        rw e
-        (subst
-        (λ (z : RangeBound). Paid c
-        (finished w (run image (z .kind) (take (z .len) (z .key)) (length image) 0 (scanOf w)))) (sym b)
-        (finishes w c a b (comes image (B .kind) (take (B .len) (B .key)) (length image) 0 (scanOf w) c rep k)))
-
-    pays : (w : Walk) (c : Conf) → Walks w c → pot c ≤ length image → Paid c (step w image)
-    unfolding step pick
-    pays w c h k = rw (walk-ok w c h) (pays-in w c (h .same-length) (h .same-bound) (h .fit) k (h .stage))
+        }))
+        (λ e r. finishes w c (h .same-length) (h .same-bound) (h .ascends))
 
     -- ALL MOVES IN ONE LOOP: as many keys as are left
-    keys-in : (w : Walk) (c : Conf) → w .bound ≡ B → pot c ≤ length image → Stage w c
+    keys-in : (w : Walk) (c : Conf) → w .bound ≡ B → Ascending (left (admitted B) c) → pot c ≤ length image → Stage w c
         → pick (not (isEnded (w .state))) (keysAhead w image) 0 ≡ length (left (admitted B) c)
     unfolding keysAhead allBy left rest front pick
-    keys-in w c b k (ended e) = rw e
-    keys-in w c b k (going e rep) =
+    keys-in w c b asc k (ended e) = rw e
+    keys-in w c b asc k (going e rep) =
         rw e
         (subst
         (λ (z : RangeBound). runBy true image (z .kind) (take (z .len) (z .key)) (length image) 0 0 (scanOf w) .keys
         ≡ length (left (admitted B) c)) (sym b)
-        (omega (arith, counts image (B .kind) (take (B .len) (B .key)) (length image) 0 0 (scanOf w) c rep k)))
+        (omega (arith, counts image (B .kind) (take (B .len) (B .key)) (length image) 0 0 (scanOf w) c rep asc k)))
 
     pub keys-left : (w : Walk) (c : Conf) → Walks w c → pot c ≤ length image
         → keysLeft w image ≡ length (left (admitted B) c)
     unfolding keysLeft
-    keys-left w c h k = rw (walk-ok w c h) (keys-in w c (h .same-bound) k (h .stage))
+    keys-left w c h k = rw (walk-ok w c h) (keys-in w c (h .same-bound) (h .ascends) k (h .stage))
 
     -- EVERY LIST OF STEPS
     pub all-steps : (calls : List Call) → Lent image calls → (w : Walk) (c : Conf) → Walks w c

@@ -1,7 +1,7 @@
 -- From the placing to the row. Proved: what a placing that was taken says of its arguments; that the walk's bound
 -- admits what its argument does; and that what is left of a fresh walk is the row that demand 3 speaks of. Hence every
 -- list of steps, and the count of one loop of moves.
-use Rattle.base.specs.Kit.{_≡_, refl, ap, sym, _∙_, List, [], Bool, true, false, not, ℕ, _+_, _*_, _%_, _≤_, _<_, arith, ltb, eqb, length, take, getD, replicate, ltb-false, eqb-true, eqb-false, not-true, not-false, le-ltb, eq-eqb, le-leb}
+use Rattle.base.specs.Kit.{_≡_, refl, ap, sym, _∙_, subst, List, [], Bool, true, false, not, ℕ, _+_, _*_, _%_, _≤_, _<_, arith, ltb, eqb, length, take, getD, replicate, ltb-false, eqb-true, eqb-false, not-true, not-false, le-ltb, eq-eqb, le-leb}
 use Rattle.base.specs.Pick.{pick}
 use Rattle.base.proofs.Choice.{pick-ind}
 use Rattle.key.specs.Part.{padded}
@@ -11,17 +11,18 @@ use Rattle.node.specs.Layout.{statedLength, edition}
 use Rattle.node.specs.Heading.{headingFault, lengthOk}
 use Rattle.cursor.specs.CursorKey.{fromSlice}
 use Rattle.cursor.specs.RangeBound.{isWithin, tested, contains, boundOf}
-use Rattle.demands.specs.Types.{RangeBound, StartMode, Above, From, WalkState, Placed}
+use Rattle.demands.specs.Types.{RangeBound, Tested, StartMode, Above, From, WalkState, Placed}
 use Rattle.layering.specs.Tree.{treeOf}
 use Rattle.layering.specs.Keys.{livePairs, leavesN, valuesN, layersN}
 use Rattle.layering.specs.Accepted.{Obeys}
+use Rattle.layering.specs.Ascending.{Ascending}
 use Rattle.layering.specs.Sieve.{sieve, past, rowOf}
 use Rattle.layering.proofs.Row.{stop, weight}
 use Rattle.layering.proofs.Flat.{weighsN}
 use Rattle.layering.proofs.Size.{moves-fit}
 use Rattle.layering.proofs.Pairs.{row-pairs}
 use Rattle.layering.proofs.Sieve.{front, front-sieve}
-use Rattle.layering.proofs.Asked.{past-ascends}
+use Rattle.layering.proofs.Asked.{past-ascends, row-in-order}
 use Rattle.layering.proofs.Bound.{contains-closed}
 use Rattle.layering.proofs.Walk.{Conf, seek, rest, left, pot}
 use Rattle.walk.specs.Placing.{shortState, startState, placeFault, freshWalk, place}
@@ -85,25 +86,29 @@ takes image o mode cursor kind bound c k f =
 
 -- THE BOUND that a placing keeps.
 module _ (kind : ℕ) (bound : List ℕ) where
-  bound-kind : kind ≤ 2 → boundOf kind bound .kind ≤ 2
+  pub bound-kind : kind ≤ 2 → boundOf kind bound .kind ≤ 2
   unfolding boundOf
   bound-kind h = pick-ind (λ (b : RangeBound). b .kind ≤ 2) (eqb kind 0) (λ t. omega arith) (λ t. h)
 
-  bound-length : length bound ≤ 256 → boundOf kind bound .len ≤ 256
+  pub bound-length : length bound ≤ 256 → boundOf kind bound .len ≤ 256
   unfolding boundOf
   bound-length h = pick-ind (λ (b : RangeBound). b .len ≤ 256) (eqb kind 0) (λ t. omega arith) (λ t. h)
 
-  bound-admits : admitted (boundOf kind bound) ≡ contains kind bound
-  unfolding boundOf contains tested isWithin pick
-  bound-admits = go (eqb kind 0) refl
+  -- its test is that of the bound that was given
+  pub bound-tests : (let B : RangeBound = boundOf kind bound in tested (B .kind) (take (B .len) (B .key))) ≡ tested kind bound
+  unfolding boundOf tested pick
+  bound-tests = go (eqb kind 0) refl
     where
       go : (c : Bool) → eqb kind 0 ≡ c
-          → admitted
-          (pick c (record { kind = 0; len = 0; key = replicate 256 0 })
-          (record { kind = kind; len = length bound; key = padded bound }))
-          ≡ contains kind bound
+          → (let B : RangeBound = pick c (record { kind = 0; len = 0; key = replicate 256 0 }) (record { kind = kind; len = length bound; key = padded bound }) in
+          tested (B .kind) (take (B .len) (B .key)))
+          ≡ tested kind bound
       go true e = rw (eqb-true kind 0 e)
-      go false e = ap (contains kind) (padded-take bound)
+      go false e = ap (tested kind) (padded-take bound)
+
+  bound-admits : admitted (boundOf kind bound) ≡ contains kind bound
+  unfolding contains
+  bound-admits = ap {B = List ℕ → Bool} (λ (t : List ℕ → Tested) (key : List ℕ). isWithin (t key .side)) bound-tests
 
 -- a walk that was placed is not ended
 not-ended : (mode : StartMode) (n : ℕ) → isEnded (startState mode n) ≡ false
@@ -129,18 +134,8 @@ module _ (image : List ℕ) (b : (i : ℕ) → getD image i 0 < 256) (o : Obeys 
         (take (boundOf kind bound .len) (boundOf kind bound .key)) mode kind bound (lim .cursor-fits)
 
     -- where it stands
-    stage : Conf
+    pub stage : Conf
     stage = seek (begun .steps) (begun .pre) (begun .to) (begun .over)
-
-    -- a fresh walk stands before its row
-    walks : Walks image (boundOf kind bound) (freshWalk image mode cursor kind bound) stage
-    unfolding freshWalk fromSlice stage
-    walks = record {
-      same-length = refl;
-      same-bound = refl;
-      fit = record { place = refl; deep = omega arith; within = omega (arith, lim .cursor-fits); position = omega arith };
-      stage = going (not-ended mode (length cursor)) (begun .rep);
-    }
 
     -- what is left of it is the row
     left-row : left (admitted (boundOf kind bound)) stage ≡ rowOf image mode cursor kind bound
@@ -152,8 +147,19 @@ module _ (image : List ℕ) (b : (i : ℕ) → getD image i 0 < 256) (o : Obeys 
         ∙ front-sieve (contains kind bound) (contains-closed kind bound) (sieve (past mode cursor) (livePairs image))
         (past-ascends image b o mode cursor)
 
+    -- a fresh walk stands before its row
+    pub walks : Walks image (boundOf kind bound) (freshWalk image mode cursor kind bound) stage
+    unfolding freshWalk fromSlice stage
+    walks = record {
+      same-length = refl;
+      same-bound = refl;
+      fit = record { place = refl; deep = omega arith; within = omega (arith, lim .cursor-fits); position = omega arith };
+      stage = going (not-ended mode (length cursor)) (begun .rep);
+      ascends = subst Ascending (sym left-row) (row-in-order image b o mode cursor kind bound);
+    }
+
     -- its potential
-    few-moves : pot stage ≤ limit image
+    pub few-moves : pot stage ≤ limit image
     unfolding stage weight
     few-moves = omega (arith, begun .light, weighsN (treeOf image) stop (o .paths))
 

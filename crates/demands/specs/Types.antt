@@ -1,8 +1,11 @@
 -- The types of code that this crate's definitions and proofs speak of, each with the variants that they name.
 pub use Rattle.cursor.specs.declared.cursor_key.CursorPlace.{CursorPlace}
 pub use Rattle.cursor.specs.declared.range_bound.RangeBound.{RangeBound}
+pub use Rattle.cursor.specs.declared.range_bound.Side.{Side}
+pub use Rattle.cursor.specs.declared.range_bound.Side.the-variants.{Inside, AtEnd, Past}
 pub use Rattle.cursor.specs.declared.range_bound.StartMode.{StartMode}
 pub use Rattle.cursor.specs.declared.range_bound.StartMode.the-variants.{Above, From}
+pub use Rattle.cursor.specs.declared.range_bound.Tested.{Tested}
 pub use Rattle.key.specs.declared.Ordering.{Ordering}
 pub use Rattle.key.specs.declared.Ordering.the-variants.{Less as OrderingLess, Equal as OrderingEqual, Greater as OrderingGreater}
 pub use Rattle.moves.specs.declared.context.Outcome.the-variants.{Continue, Emit, Exhausted}

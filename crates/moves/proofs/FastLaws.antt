@@ -4,12 +4,12 @@ use Rattle.base.specs.Kit.{_≡_, refl, _∙_, ap, Bool, true, false, and-eq-tr
 use Rattle.base.specs.Pick.{pick}
 use Rattle.node.specs.Permuter.{sizeOf}
 use Rattle.node.specs.Layout.{permutationAt, ikeyAt, liveAt}
-use Rattle.moves.specs.Types.{Position, Slot, CursorPlace, FastSlotAt as At, Slow, NextKey, Out, Past, Duplicate, No, ScanCtx, Emit, Exhausted, Pass}
+use Rattle.moves.specs.Types.{Position, Slot, CursorPlace, FastSlotAt as At, Slow, NextKey, Out, Past, Side, Inside, AtEnd, SidePast, Duplicate, No, ScanCtx, Emit, Exhausted, Pass}
 use Rattle.search.specs.Traversal.{leafThere}
 use Rattle.search.specs.Helper.{slotIn}
 use Rattle.search.proofs.TraversalLaws.{not-second}
-use Rattle.moves.specs.Moves.{Taken, onward, isStorable, keyPlace, keyBuf, handOut, emitKey, takeKey, takeSlot, unlessDup, findSlot, findNext}
-use Rattle.moves.specs.CodeFastPath.{fastSlot, nextOf, nextKey}
+use Rattle.moves.specs.Moves.{Taken, onward, isStorable, keyPlace, keyBuf, outcomeOn, handOut, emitKey, takeKey, takeSlot, unlessDup, findSlot, findNext}
+use Rattle.moves.specs.CodeFastPath.{fastSlot, nextOn, nextOf, nextKey}
 
 -- THE SLOT THAT IS FAST: its position is in use, its ikey is not below the cursor's, and its key is live and can be stored.
 pub record Fast (image : List ℕ) (leaf : ℕ) (p : Position) (k : CursorPlace) (s : Slot) : Type 0 where
@@ -48,15 +48,17 @@ module _ (image : List ℕ) (leaf : ℕ) (p : Position) (k : CursorPlace) where
       } in
       rw same at facts
 
--- FINDNEXT. What a key that is stored comes to, by whether the bound admits it.
+-- FINDNEXT. What a key that is stored comes to, by the side on which the bound has it.
 unfoldable pub passOf : ScanCtx → NextKey → Pass
-passOf c (Out k value) = record { outcome = Emit value; ctx = onward c k (k .ikey) }
+passOf c (Out k value last) = record { outcome = Emit value last; ctx = onward c k (k .ikey) }
 passOf c (Past k) = record { outcome = Exhausted; ctx = onward c k (k .ikey) }
 
-chosen : (c : ScanCtx) (t : Bool) (a b : NextKey) → pick t (passOf c a) (passOf c b) ≡ passOf c (pick t a b)
-unfolding pick
-chosen c true a b = refl
-chosen c false a b = refl
+on-side : (c : ScanCtx) (side : Side) (k : CursorPlace) (value : ℕ)
+    → record { outcome = outcomeOn side value; ctx = onward c k (k .ikey) } ≡ passOf c (nextOn side k value)
+unfolding outcomeOn nextOn passOf
+on-side c Inside k value = refl
+on-side c AtEnd k value = refl
+on-side c SidePast k value = refl
 
 module _ (image : List ℕ) (kind : ℕ) (bound buf : List ℕ) (c : ScanCtx) where
   -- the cursor and the buffer with a slot's key
@@ -85,8 +87,8 @@ module _ (image : List ℕ) (kind : ℕ) (bound buf : List ℕ) (c : ScanCtx) wh
     takes-live = rw (facts .storable, facts .live)
 
     hands-out : handOut image kind bound (bufOf s) c s (keyOf s) ≡ passOf c (nextKey image kind bound buf (c .leaf) s (c .cursor))
-    unfolding handOut nextKey nextOf passOf
-    hands-out = chosen c _ _ _
+    unfolding handOut nextKey nextOf
+    hands-out = on-side c _ _ _
 
     -- o is what `hand_out` answered
     pub fast-next : (o : NextKey) → o ≡ nextKey image kind bound buf (c .leaf) s (c .cursor) → findNext image kind bound buf c ≡ record { pass = passOf c o; buf = bufOf s }
@@ -94,13 +96,14 @@ module _ (image : List ℕ) (kind : ℕ) (bound buf : List ℕ) (c : ScanCtx) wh
 
 -- either answer's cursor has the slot's key
 abbrev pub placeIn : NextKey → CursorPlace
-placeIn (Out k value) = k
+placeIn (Out k value last) = k
 placeIn (Past k) = k
 
-one-place : (t : Bool) (k : CursorPlace) (value : ℕ) → placeIn (pick t (Out k value) (Past k)) ≡ k
-unfolding pick
-one-place true k value = refl
-one-place false k value = refl
+one-place : (side : Side) (k : CursorPlace) (value : ℕ) → placeIn (nextOn side k value) ≡ k
+unfolding nextOn
+one-place Inside k value = refl
+one-place AtEnd k value = refl
+one-place SidePast k value = refl
 
 pub next-place : (image : List ℕ) (kind : ℕ) (bound buf : List ℕ) (leaf : ℕ) (s : Slot) (k : CursorPlace) (o : NextKey)
     → o ≡ nextKey image kind bound buf leaf s k → placeIn o ≡ keyPlace image leaf s k

@@ -4,13 +4,13 @@ use Rattle.base.specs.Kit.{_≡_, refl, sym, _∙_, subst, Bool, true, List, �
 use Rattle.base.proofs.Choice.{pick-ind}
 use Rattle.node.specs.Layout.{permutationAt}
 use Rattle.node.specs.Permuter.{sizeOf}
-use Rattle.moves.specs.Types.{Position, Slot, CursorPlace, Searched, SearchedAt as At, SearchedFault, StartMode, Started, StartedAt, Enter as StartedEnter, StartedFault, Reached, Leaf as ReachedLeaf, ReachedFault, ScanState, Start, Retry, FindNext, Down, Up, ScanCtx, Outcome, Continue, Push, Emit, Exhausted, OutcomeFault as Fault, Pass, Duplicate, No, Yes, DuplicateFault as DupFault}
+use Rattle.moves.specs.Types.{Position, Slot, CursorPlace, Searched, SearchedAt as At, SearchedFault, Side, Inside, AtEnd, SidePast, StartMode, Started, StartedAt, Enter as StartedEnter, StartedFault, Reached, Leaf as ReachedLeaf, ReachedFault, ScanState, Start, Retry, FindNext, Down, Up, ScanCtx, Outcome, Continue, Push, Emit, Exhausted, OutcomeFault as Fault, Pass, Duplicate, No, Yes, DuplicateFault as DupFault}
 use Rattle.cursor.specs.CursorKey.{shift, shiftClear, unshift, withIkey, withLength}
 use Rattle.search.specs.Traversal.{reach}
 use Rattle.start.specs.Start.{startPosition}
 use Rattle.search.proofs.Laws.{lower-within}
 use Rattle.start.proofs.StartLaws.{start-within, enter-within}
-use Rattle.moves.specs.Moves.{faulted, standing, begin, startIn, findStart, retryIn, findRetry, handleDown, handleUp, advanceLeaf, Taken, kept, onward, emitKey, isStorable, keyPlace, handOut, takeKey, takeLayer, takeSlot, unlessDup, backToRetry, findSlot, findNext, passIn}
+use Rattle.moves.specs.Moves.{faulted, standing, begin, startIn, findStart, retryIn, findRetry, handleDown, handleUp, advanceLeaf, Taken, kept, onward, emitKey, isStorable, keyPlace, outcomeOn, handOut, takeKey, takeLayer, takeSlot, unlessDup, backToRetry, findSlot, findNext, passIn}
 use Rattle.moves.specs.CodeMoves.{InBuffer, InRange}
 use Rattle.moves.proofs.StoredKey.{stored, key-fits, key-buf-length}
 
@@ -43,7 +43,7 @@ Entering Up c = ⊥
 abbrev pub After : Outcome → ScanCtx → Type 0
 After Continue c = Between (c .state) c
 After (Push root) c = Entering (c .state) c × (c .depth < 31)
-After (Emit value) c = (c .state ≡ FindNext) × InRange (c .depth) c
+After (Emit value last) c = (c .state ≡ FindNext) × InRange (c .depth) c
 After Exhausted c = InRange (c .depth) c
 After Fault c = Unit {0}
 
@@ -106,9 +106,15 @@ module _ (c : ScanCtx) (k : CursorPlace) (place : k .offset ≡ 8 * c .depth) (d
     unfolding onward
     goes-on last = record { place = place; deep = deep; within = within; position = omega arith }
 
+    on-side : (side : Side) (value last : ℕ) → After (outcomeOn side value) (onward c k last)
+    unfolding outcomeOn onward
+    on-side Inside value last = (refl, goes-on last)
+    on-side AtEnd value last = (refl, goes-on last)
+    on-side SidePast value last = goes-on last
+
     emits : (image : List ℕ) (kind : ℕ) (bound buf : List ℕ) (s : Slot) → Good (emitKey image kind bound buf c s k)
     unfolding emitKey handOut onward
-    emits image kind bound buf s = pick-ind Good _ (λ t. goes-on _) (λ f. pick-ind Good _ (λ t. (refl, goes-on _)) (λ f. goes-on _))
+    emits image kind bound buf s = pick-ind Good _ (λ t. goes-on _) (λ f. on-side _ _ _)
 
 down : (c : ScanCtx) → Before Down c → Good (handleDown c)
 unfolding handleDown shiftClear

@@ -3,4 +3,5 @@ pub mod Answers
 pub mod StoredKey
 pub mod Laws
 pub mod FastLaws
+pub mod Told
 pub mod ByRule01

@@ -4,9 +4,9 @@ use Rattle.base.specs.Kit.{Bool, true, false, not, _&&_, _||_, List, ℕ, _+_, 
 use Rattle.base.specs.Pick.{pick}
 use Rattle.node.specs.Permuter.{sizeOf}
 use Rattle.node.specs.Layout.{permutationAt, ikeyAt, keylenxAt, valueAt, liveAt, suffixAt, nextAt}
-use Rattle.moves.specs.Types.{Position, Slot, CursorPlace, StoredOrder, Less as SuffixLess, Equal as SuffixEqual, Greater as SuffixGreater, NoSuffix, StoredOrderFault as SuffixFault, Searched, SearchedAt as At, SearchedFault, StartMode, Started, StartedAt, Enter as StartedEnter, StartedFault, Reached, Leaf as ReachedLeaf, ReachedFault, ScanState, Start, Retry, FindNext, Down, Up, ScanCtx, Continue, Push, Emit, Exhausted, OutcomeFault as Fault, Pass, Duplicate, No, Yes, DuplicateFault as DupFault}
+use Rattle.moves.specs.Types.{Position, Slot, CursorPlace, StoredOrder, Less as SuffixLess, Equal as SuffixEqual, Greater as SuffixGreater, NoSuffix, StoredOrderFault as SuffixFault, Searched, SearchedAt as At, SearchedFault, Side, Inside, AtEnd, SidePast, StartMode, Started, StartedAt, Enter as StartedEnter, StartedFault, Reached, Leaf as ReachedLeaf, ReachedFault, ScanState, Start, Retry, FindNext, Down, Up, ScanCtx, Outcome, Continue, Push, Emit, Exhausted, OutcomeFault as Fault, Pass, Duplicate, No, Yes, DuplicateFault as DupFault}
 use Rattle.cursor.specs.CursorKey.{shift, shiftClear, unshift, hasSuffix, compareSlot, withIkey, withLength, storeIkey, storeSuffix}
-use Rattle.cursor.specs.RangeBound.{contains}
+use Rattle.cursor.specs.RangeBound.{tested}
 use Rattle.search.specs.Traversal.{leafThere, reach}
 use Rattle.search.specs.Helper.{position, slotIn, byOrder, suffixReadable, suffixBytes, storedOrder, lowerWithSuffix}
 use Rattle.start.specs.Start.{startPosition}
@@ -126,13 +126,19 @@ keyBuf image leaf s offset buf =
     let b = storeIkey buf offset (ikeyAt image leaf s) in
     pick (leb (keylenxAt image leaf s) 8) b (storeSuffix b offset (suffixBytes image leaf s))
 
--- "a live key in bounds is put in the cursor and is out, position one on; one out of bounds ends the walk". The cursor `k` and the buffer
--- hold the key.
+-- "a live key in bounds is put in the cursor and is out, position one on; one out of bounds ends the walk". 02 [12]: "A walk that hands out
+-- the key exactly at its end is ended there", so that key is told as the last.
+unfoldable pub outcomeOn : Side → ℕ → Outcome
+outcomeOn Inside value = Emit value false
+outcomeOn AtEnd value = Emit value true
+outcomeOn SidePast value = Exhausted
+
+-- The cursor `k` and the buffer hold the key.
 unfoldable pub handOut : List ℕ → ℕ → List ℕ → List ℕ → ScanCtx → Slot → CursorPlace → Pass
-handOut image kind bound buf c s k =
-    pick (contains kind bound (take (k .offset + k .len) buf))
-    (record { outcome = Emit (valueAt image (c .leaf) s); ctx = onward c k (k .ikey) })
-    (record { outcome = Exhausted; ctx = onward c k (k .ikey) })
+handOut image kind bound buf c s k = record {
+  outcome = outcomeOn (tested kind bound (take (k .offset + k .len) buf) .side) (valueAt image (c .leaf) s);
+  ctx = onward c k (k .ikey);
+}
 
 -- A dead slot's key is stored too, and its bound is not tested.
 unfoldable pub emitKey : List ℕ → ℕ → List ℕ → List ℕ → ScanCtx → Slot → CursorPlace → Pass

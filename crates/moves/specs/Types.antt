@@ -1,5 +1,7 @@
 -- The types of code that this crate's definitions and proofs speak of, each with the variants that they name.
 pub use Rattle.cursor.specs.declared.cursor_key.CursorPlace.{CursorPlace}
+pub use Rattle.cursor.specs.declared.range_bound.Side.{Side}
+pub use Rattle.cursor.specs.declared.range_bound.Side.the-variants.{Inside, AtEnd, Past as SidePast}
 pub use Rattle.cursor.specs.declared.range_bound.StartMode.{StartMode}
 pub use Rattle.cursor.specs.declared.range_bound.StartMode.the-variants.{From}
 pub use Rattle.node.specs.declared.permuter.Position.{Position}

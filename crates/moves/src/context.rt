@@ -29,12 +29,12 @@ pub struct ScanCtx {
     pub dup: bool,
 }
 
-// What a move comes to: the loop goes on; a layer is entered, whose root is given; a key is out, with its value; the walk
-// is at its end; the image cannot be read (22).
+// What a move comes to: the loop goes on; a layer is entered, whose root is given; a key is out, with its value, and it is the last where it
+// is the included end; the walk is at its end; the image cannot be read (22).
 pub enum Outcome {
     Continue,
     Push(u64),
-    Emit(u64),
+    Emit { value: u64, last: bool },
     Exhausted,
     Fault,
 }

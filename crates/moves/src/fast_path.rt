@@ -4,6 +4,7 @@
 use crate::stored_key;
 use cursor::cursor_key::CursorPlace;
 use cursor::range_bound;
+use cursor::range_bound::Side;
 use node::leaf;
 use node::permuter;
 use node::permuter::Position;
@@ -18,9 +19,13 @@ pub enum FastSlot {
     Slow,
 }
 
-// A key that is stored in cursor and buffer: it is out, with its value, or past the bound.
+// A key that is stored in cursor and buffer: it is out, with its value, and the last where it is the included end; or it is past the bound.
 pub enum NextKey {
-    Out { k: CursorPlace, value: u64 },
+    Out {
+        k: CursorPlace,
+        value: u64,
+        last: bool,
+    },
     Past(CursorPlace),
 }
 
@@ -52,7 +57,7 @@ pub fn fast_slot(image: &[u8], leaf: usize, position: Position, k: CursorPlace) 
     FastSlot::At(slot)
 }
 
-// Whether the bound admits a live slot's key, which cursor and buffer hold; `store_key` has put it there.
+// On which side the bound has a live slot's key, which cursor and buffer hold; `store_key` has put it there.
 pub fn hand_out(
     image: &[u8],
     kind: u8,
@@ -67,16 +72,24 @@ pub fn hand_out(
     requires { ⌜ length (now buf) ≡ 256 ⌝ }
     ensures { λ r. ⌜ r ≡ nextOf (now (image .entry)) kind (now (bound .entry)) (now (buf .entry)) leaf slot stored ⌝ }
 {
-    if range_bound::contains(
+    let t = range_bound::test(
         kind,
         bound,
         key::part_of(buf, 0, stored.offset + stored.len),
-    ) {
-        let value = leaf::value(image, leaf, slot);
-        return NextKey::Out {
+    );
+    let value = leaf::value(image, leaf, slot);
+    let side = t.side;
+    match side {
+        Side::Inside => NextKey::Out {
             k: stored,
             value: value,
-        };
+            last: false,
+        },
+        Side::AtEnd => NextKey::Out {
+            k: stored,
+            value: value,
+            last: true,
+        },
+        Side::Past => NextKey::Past(stored),
     }
-    NextKey::Past(stored)
 }

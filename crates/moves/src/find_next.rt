@@ -6,6 +6,7 @@ use crate::context::ScanCtx;
 use crate::context::ScanState;
 use crate::stored_key;
 use cursor::range_bound;
+use cursor::range_bound::Side;
 use key::Ordering;
 use node::leaf;
 use node::permuter;
@@ -16,7 +17,7 @@ use search::traversal;
 ghost use Rattle.base.specs.Kit.{_≡_, true, _+_, _≤_};
 ghost use Rattle.node.specs.Layout.{InLeaf, InSlot};
 ghost use Rattle.search.specs.Traversal.{leafThere};
-ghost use Rattle.moves.specs.Moves.{advanceLeaf, dupLevel, dupOf, dupDue, isStorable, takeKey, takeLayer, takeSlot, findSlot, findNext};
+ghost use Rattle.moves.specs.Moves.{advanceLeaf, dupLevel, dupOf, dupDue, isStorable, outcomeOn, takeKey, takeLayer, takeSlot, findSlot, findNext};
 
 // The duplicate check's answer: the slot is new to the walk; the cursor has come to it or passed it; it cannot be read.
 pub enum Duplicate {
@@ -96,8 +97,25 @@ fn duplicate_due(image: &[u8], buf: &[u8; 256], c: ScanCtx, slot: Slot) -> Dupli
     duplicate_at(image, buf, c, slot)
 }
 
-// A key that ends in this layer or goes on in its suffix: stored, and then passed over where it is dead, out where it is in bounds,
-// and else the end.
+// What a live key comes to, by the side on which the bound has it.
+fn outcome_on(side: Side, value: u64) -> Outcome
+    ensures { λ r. ⌜ r ≡ outcomeOn side value ⌝ }
+{
+    match side {
+        Side::Inside => Outcome::Emit {
+            value: value,
+            last: false,
+        },
+        Side::AtEnd => Outcome::Emit {
+            value: value,
+            last: true,
+        },
+        Side::Past => Outcome::Exhausted,
+    }
+}
+
+// A key that ends in this layer or goes on in its suffix: stored, and then passed over where it is dead, out where it is in bounds, the last
+// where it is the included end, and else the end.
 fn take_key(
     image: &[u8],
     kind: u8,
@@ -122,14 +140,10 @@ fn take_key(
         };
     }
     let next = context::go_on(c, k, k.ikey);
-    if range_bound::contains(kind, bound, key::part_of(buf, 0, k.offset + k.len)) {
-        return Pass {
-            outcome: Outcome::Emit(leaf::value(image, at, slot)),
-            ctx: next,
-        };
-    }
+    let t = range_bound::test(kind, bound, key::part_of(buf, 0, k.offset + k.len));
+    let side = t.side;
     Pass {
-        outcome: Outcome::Exhausted,
+        outcome: outcome_on(side, leaf::value(image, at, slot)),
         ctx: next,
     }
 }

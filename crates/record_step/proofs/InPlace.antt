@@ -1,5 +1,5 @@
 -- A step on a record in place: the record with the next slot's key in it is the record's step.
-use Rattle.base.specs.Kit.{_≡_, refl, sym, _∙_, ap, true, false, List, ℕ, _+_, _≤_, arith, eqb, length, getD}
+use Rattle.base.specs.Kit.{_≡_, refl, sym, _∙_, ap, Bool, true, false, List, ℕ, _+_, _≤_, arith, eqb, length, getD}
 use Rattle.base.specs.Pick.{pick}
 use Rattle.base.proofs.Choice.{pick-ind}
 use Rattle.key.specs.Part.{part}
@@ -14,7 +14,7 @@ use Rattle.search.proofs.Laws.{leaf-there}
 use Rattle.moves.proofs.StoredKey.{key-fits}
 use Rattle.moves.proofs.FastLaws.{fast-facts, next-place}
 use Rattle.walk.specs.Walk.{walkOk, numberOf, answerNumbers}
-use Rattle.scan.specs.Machine.{isEnded, ctxOf, walkOf, step}
+use Rattle.scan.specs.Machine.{isEnded, ctxOf, walkOf, afterKey, step}
 use Rattle.scan.specs.CodeLoop.{goneNumber}
 use Rattle.walk.proofs.NumberLaws.{walk-fits}
 use Rattle.scan.proofs.BeginLaws.{in-range, step-advances}
@@ -108,12 +108,12 @@ module _ (n b k image : List ℕ) (is : isRecord n b k ≡ true) (ok : numbersOk
           → keyNumbers n c state ≡ numbersOf (walkOf w state (record { ctx = onward (ctxOf w) c (c .ikey); buf = buf; stack = w .stack }))
       written state f = sym (ap (λ (l : List ℕ). keyNumbers l c state) (walk-inverse n b k is .0)) ∙ put-in w c buf state f
 
-      pub key-out : (value : ℕ) → Out c value ≡ nextKey image (getD n kindAt 0) bytes b (getD n leafAt 0) slot (placeOf n)
-          → out′ ≡ answerNumbers (Key (c .offset + c .len) value) 1 → StepMade n b k image out 0 (keyNumbers n c FindNext) buf out′
+      pub key-out : (value : ℕ) (last : Bool) → Out c value last ≡ nextKey image (getD n kindAt 0) bytes b (getD n leafAt 0) slot (placeOf n)
+          → out′ ≡ answerNumbers (Key (c .offset + c .len) value) 1 → StepMade n b k image out 0 (keyNumbers n c (afterKey last)) buf out′
       unfolding numberOf readWalk
-      key-out value f eo =
-          taken n b k image out four is w refl _ (step.out w image walk-next there slot e bytes eb c buf ek value f ∙ step-advances w image walk-ok (ap isEnded walk-next)) 0 refl refl _ _ _
-          (written FindNext (offset-is (next-place image _ _ b _ slot _ _ f))) refl eo
+      key-out value last f eo =
+          taken n b k image out four is w refl _ (step.out w image walk-next there slot e bytes eb c buf ek value last f ∙ step-advances w image walk-ok (ap isEnded walk-next)) 0 refl refl _ _ _
+          (written (afterKey last) (offset-is (next-place image _ _ b _ slot _ _ f))) refl eo
 
       pub key-past : Past c ≡ nextKey image (getD n kindAt 0) bytes b (getD n leafAt 0) slot (placeOf n)
           → out′ ≡ answerNumbers Nothing 1 → StepMade n b k image out 0 (keyNumbers n c Ended) buf out′

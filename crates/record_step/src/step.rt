@@ -87,9 +87,9 @@ fn step_fast(
     let stored = stored_key::store_key(image, leaf, slot, buf, k);
     let next = fast_path::hand_out(image, kind, end, buf, leaf, slot, stored);
     match next {
-        NextKey::Out { k, value } => {
+        NextKey::Out { k, value, last } => {
             let len = k.offset + k.len;
-            in_place::put_key(numbers, k, WalkState::FindNext);
+            in_place::put_key(numbers, k, forward_ctx::after_key(last));
             let said = answer::answer_numbers(Answer::Key { len, value }, 1);
             record::copy_words(out, &said);
             0

@@ -255,6 +255,7 @@ fn tested(name: &[u8], kind: u8, bound: &[u8], key: &[u8]) {
     let side = t.side;
     match side {
         Side::Inside => line(name, b" inside ", t.comparisons),
+        Side::AtEnd => line(name, b" at end ", t.comparisons),
         Side::Past => line(name, b" past ", t.comparisons),
     }
 }

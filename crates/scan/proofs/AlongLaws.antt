@@ -1,7 +1,8 @@
 -- The moves along a leaf: each is a move of the machine that hands out a key, so that what is left to do stays what it was.
-use Rattle.base.specs.Kit.{_≡_, refl, sym, _∙_, ap, true, false, false≢true, List, ℕ, _+_, _-_, _≤_, _<_, arith, length}
+use Rattle.base.specs.Kit.{_≡_, refl, sym, _∙_, ap, Bool, true, false, false≢true, List, ℕ, _+_, _-_, _≤_, _<_, arith, length}
 use Rattle.base.specs.Pick.{pick}
-use Rattle.scan.specs.Types.{Slot, CursorPlace, ScanCtx, At, Out, NextKeyPast as PastBound, LayerContext, Slow, LeafEndPast as Past, LeafEndFault as Gone, Spent}
+use Rattle.base.proofs.Choice.{pick-on, pick-off}
+use Rattle.scan.specs.Types.{Slot, CursorPlace, ScanCtx, At, Out, Nothing, NextKeyPast as PastBound, LayerContext, Slow, Bound, LeafEndFault as Gone, Spent}
 use Rattle.cursor.specs.CursorKey.{withIkey, withLength}
 use Rattle.search.specs.Traversal.{leafThere}
 use Rattle.moves.specs.Moves.{onward, keyPlace, keyBuf}
@@ -10,7 +11,7 @@ use Rattle.moves.specs.CodeFastPath.{fastSlot, nextKey}
 use Rattle.moves.proofs.StoredKey.{key-fits, key-buf-length}
 use Rattle.moves.proofs.FastLaws.{Fast, fast-facts, next-place}
 use Rattle.scan.specs.Machine.{Scan}
-use Rattle.scan.specs.CodeLoop.{counted, afterBy, runBy, AfterKey, ahead, alongWith, AlongFrom}
+use Rattle.scan.specs.CodeLoop.{counted, cameTo, goesOn, afterBy, runBy, AfterKey, ahead, alongWith, AlongFrom}
 use Rattle.scan.proofs.RunLaws.{turn}
 use Rattle.scan.proofs.FastMove.{leaf-gone, moves-out, moves-past}
 
@@ -100,21 +101,41 @@ module _ (image : List ℕ) (kind : ℕ) (bound buf₀ : List ℕ) (c₀ : ScanC
           unfolding onward
           after-it = record { next = refl; not-due = refl; last-is = refl }
 
-          pub out : (value : ℕ) → Out k value ≡ nextKey image kind bound buf (c .leaf) slot (c .cursor)
-              → Going b (onward c k (k .ikey)) (keys + 1) (moves + 1)
-          unfolding onward afterBy counted pick
-          out value f = record {
-            same = λ stack. rw eb (sym (turn image kind bound true moves keys (scan c buf stack) _ _ more (moves-out image kind bound buf stack c (g .after) there slot e k value f)) ∙ g .same stack);
-            after = after-it;
-            in-range = goes-on (next-place image kind bound buf (c .leaf) slot (c .cursor) _ f);
-            long = long-still;
-            few = omega (arith, g .few);
-            grows = omega (arith, g .grows);
-            within = omega arith;
-          }
+          -- the key is out; where it is the last, the count is at its end
+          module _ (value : ℕ) (last : Bool) (f : Out k value last ≡ nextKey image kind bound buf (c .leaf) slot (c .cursor)) where
+            goes : (stack : List LayerContext)
+                → pick (goesOn true last) (ahead image kind bound (keys + 1) (moves + 1) (scan (onward c k (k .ikey)) b stack)) (cameTo Nothing false (keys + 1) (moves + 1) (scan (onward c k (k .ikey)) b stack))
+                ≡ ahead image kind bound keys₀ moves₀ (scan c₀ buf₀ stack)
+            unfolding onward afterBy counted pick
+            goes stack = rw eb (sym (turn image kind bound true moves keys (scan c buf stack) _ _ more (moves-out image kind bound buf stack c (g .after) there slot e k value last f)) ∙ g .same stack)
+
+            pub out : last ≡ false → Going b (onward c k (k .ikey)) (keys + 1) (moves + 1)
+            unfolding onward
+            out t = record {
+              same = λ stack. pick-on _ (goesOn true last) refl _ _ _ (ap (goesOn true) t) refl ∙ goes stack;
+              after = after-it;
+              in-range = goes-on (next-place image kind bound buf (c .leaf) slot (c .cursor) _ f);
+              long = long-still;
+              few = omega (arith, g .few);
+              grows = omega (arith, g .grows);
+              within = omega arith;
+            }
+
+            pub last-out : last ≡ true → AlongFrom image kind bound buf₀ c₀ keys₀ moves₀ (alongWith Bound (onward c k (k .ikey)) (keys + 1) (moves + 1)) b
+            unfolding onward pick
+            last-out t = record {
+              same = λ stack. pick-off _ (goesOn true last) refl _ _ _ (ap (goesOn true) t) refl ∙ goes stack;
+              after = after-it;
+              in-range = goes-on (next-place image kind bound buf (c .leaf) slot (c .cursor) _ f);
+              long = long-still;
+              few = omega (arith, g .few);
+              grows = omega (arith, g .grows);
+              within = omega arith;
+              tested = λ e. absurd (false≢true e);
+            }
 
           pub past : PastBound k ≡ nextKey image kind bound buf (c .leaf) slot (c .cursor)
-              → AlongFrom image kind bound buf₀ c₀ keys₀ moves₀ (alongWith Past (onward c k (k .ikey)) keys (moves + 1)) b
+              → AlongFrom image kind bound buf₀ c₀ keys₀ moves₀ (alongWith Bound (onward c k (k .ikey)) keys (moves + 1)) b
           unfolding onward afterBy counted pick
           past f = record {
             same = λ stack. rw eb (sym (turn image kind bound true moves keys (scan c buf stack) _ _ more (moves-past image kind bound buf stack c (g .after) there slot e k f)) ∙ g .same stack);

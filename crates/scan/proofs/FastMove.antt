@@ -1,5 +1,5 @@
 -- A move right after a key, where its leaf stands and its next slot is fast: what `hand_out` answered says what the move comes to.
-use Rattle.base.specs.Kit.{_≡_, _∙_, ap, true, false, List, ℕ}
+use Rattle.base.specs.Kit.{_≡_, _∙_, ap, Bool, true, false, List, ℕ}
 use Rattle.base.specs.Pick.{pick}
 use Rattle.scan.specs.Types.{Slot, CursorPlace, ScanCtx, ScanState, Emit, Exhausted, OutcomeFault as Fault, At, NextKey, Out, NextKeyPast as Past, LayerContext}
 use Rattle.search.specs.Traversal.{leafThere}
@@ -35,10 +35,10 @@ module _ (image : List ℕ) (kind : ℕ) (bound buf : List ℕ) (stack : List La
 
     -- the key is out, or past the bound
     module _ (k : CursorPlace) where
-      pub moves-out : (value : ℕ) → Out k value ≡ nextKey image kind bound buf (c .leaf) slot (c .cursor)
-          → move image kind bound here ≡ record { outcome = Emit value; scan = record { ctx = onward c k (k .ikey); buf = B; stack = stack } }
+      pub moves-out : (value : ℕ) (last : Bool) → Out k value last ≡ nextKey image kind bound buf (c .leaf) slot (c .cursor)
+          → move image kind bound here ≡ record { outcome = Emit value last; scan = record { ctx = onward c k (k .ikey); buf = B; stack = stack } }
       unfolding movedBy pushing passOf
-      moves-out value f = moves-so (Out k value) f
+      moves-out value last f = moves-so (Out k value last) f
 
       pub moves-past : Past k ≡ nextKey image kind bound buf (c .leaf) slot (c .cursor)
           → move image kind bound here ≡ record { outcome = Exhausted; scan = record { ctx = onward c k (k .ikey); buf = B; stack = stack } }

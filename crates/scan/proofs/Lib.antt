@@ -1,4 +1,4 @@
--- The lemma files of this crate; `ByRule01` is a theorem.
+-- The lemma files of this crate; `ByRule01` and `AtEnd` have theorems.
 pub mod BeginLaws
 pub mod MoveLaws
 pub mod RunLaws
@@ -6,4 +6,6 @@ pub mod FastMove
 pub mod AlongLaws
 pub mod LoopLaws
 pub mod StepLaws
+pub mod Kept
+pub mod AtEnd
 pub mod ByRule01

@@ -10,7 +10,7 @@ use Rattle.scan.specs.Types.{ScanState, ScanStateStart as Start, ScanSta
 use Rattle.moves.proofs.Laws.{Between, Before, After, not-up, popped-in-range, entered-in-range, pass-in-range, buffer-in-range}
 use Rattle.walk.specs.Walk.{walkOk}
 use Rattle.scan.specs.Machine.{Scan, isUp, pushing, movedBy, entered, stacked, popped, unstacked, move, scanState, scanOf}
-use Rattle.scan.specs.CodeLoop.{counted, Run, afterBy, runBy, allBy, advanceBy, advancedOf, isNext, isAlong, AfterKey, isSlow, leftAnswer, AlongFrom}
+use Rattle.scan.specs.CodeLoop.{counted, Run, cameTo, goesOn, emittedBy, afterBy, runBy, allBy, advanceBy, advancedOf, isNext, isAlong, AfterKey, isSlow, leftAnswer, AlongFrom}
 use Rattle.walk.specs.declared.scan_state.WalkState.the-variants as walk
 use Rattle.walk.proofs.NumberLaws.{walk-fits}
 use Rattle.scan.proofs.BeginLaws.{starts-between}
@@ -136,14 +136,14 @@ module _ (whole : Bool) (w : Walk) (image : List ℕ) (kind : ℕ) (bound : List
 
       -- the loop ends
       pub along-ends : isSlow (a .end) ≡ false → (answer : Answer) → answer ≡ leftAnswer (a .end)
-          → (r : Advanced) → r ≡ advancedOf w (record { keys = a .keys; ran = record { answer = answer; moves = a .moves; scan = record { ctx = a .ctx; buf = b; stack = s .stack } } })
+          → (r : Advanced) → r ≡ advancedOf w (cameTo answer false (a .keys) (a .moves) (record { ctx = a .ctx; buf = b; stack = s .stack }))
           → r ≡ advanceBy whole w image
       along-ends g answer u r v =
           v ∙ rw u (comes _ (pick-off _ (isSlow (a .end)) refl _ _ _ g refl ∙ f .same (s .stack) ∙ all-so true (along-so (s .ctx) whole e .0)))
 
   module _ (s : Scan) (moves keys : ℕ) (tested : Bool) (h : Held s moves keys tested) where
     -- no move is left
-    pub none : length image ≤ moves → (r : Advanced) → r ≡ advancedOf w (record { keys = keys; ran = record { answer = Declined 23; moves = moves; scan = s } })
+    pub none : length image ≤ moves → (r : Advanced) → r ≡ advancedOf w (cameTo (Declined 23) false keys moves s)
         → r ≡ advanceBy whole w image
     unfolding runBy
     none l r e = let z : length image - moves ≡ 0 = omega arith in e ∙ comes _ (rw z at (h .same))
@@ -151,7 +151,7 @@ module _ (whole : Bool) (w : Walk) (image : List ℕ) (kind : ℕ) (bound : List
     module _ (more : moves < length image) where
       -- Up from the first layer
       pub ends : isUp (s .ctx .state) ≡ true → s .ctx .depth ≡ 0
-          → (r : Advanced) → r ≡ advancedOf w (record { keys = keys; ran = record { answer = Nothing; moves = moves + 1; scan = s } }) → r ≡ advanceBy whole w image
+          → (r : Advanced) → r ≡ advancedOf w (cameTo Nothing false keys (moves + 1) s) → r ≡ advanceBy whole w image
       unfolding afterBy counted
       ends u d r f = f ∙ comes _ (sym (turn image kind bound whole moves keys s _ _ more (end-is image kind bound s u d)) ∙ h .same)
 
@@ -208,27 +208,30 @@ module _ (whole : Bool) (w : Walk) (image : List ℕ) (kind : ℕ) (bound : List
         })
 
     -- a key is counted, and the loop goes on
-    pub counts : whole ≡ true → (value : ℕ) → p .outcome ≡ Emit value → Held (record { ctx = p .ctx; buf = b; stack = stack }) (moves + 1) (keys + 1) false
+    pub counts : (value : ℕ) (last : Bool) → p .outcome ≡ Emit value last → goesOn whole last ≡ true
+        → Held (record { ctx = p .ctx; buf = b; stack = stack }) (moves + 1) (keys + 1) false
     unfolding pushing afterBy counted
-    counts t value e =
-        let l = m .after (Emit value) e in
+    counts value last e t =
+        let l = m .after (Emit value last) e in
         let i : InRange (p .ctx .depth) (p .ctx) = l .1 in
         record {
           within = m .within;
           few = omega (arith, m .few);
-          same = pick-on whole whole refl _ _ _ t refl ∙ m .same (Emit value) e;
+          same = pick-on _ (goesOn whole last) refl _ _ _ t refl ∙ m .same (Emit value last) e;
           fits = subst (λ (x : ScanState). Between x (p .ctx)) (sym (l .0)) i;
           long = m .long;
           deep = i .deep;
           known = λ f. absurd (false≢true f);
         }
 
-    -- the loop ends, with the answer a
-    module _ (a : Answer) (r : Advanced) (k : ℕ) (g : r ≡ advancedOf w (record { keys = k; ran = record { answer = a; moves = moves + 1; scan = record { ctx = p .ctx; buf = b; stack = stack } } })) where
-      pub emits : whole ≡ false → (value : ℕ) → p .outcome ≡ Emit value → a ≡ Key (p .ctx .cursor .offset + p .ctx .cursor .len) value → k ≡ keys + 1 → r ≡ advanceBy whole w image
-      unfolding pushing afterBy counted
-      emits t value e u v = g ∙ rw (u, v) (comes _ (pick-off whole whole refl _ _ _ t refl ∙ m .same (Emit value) e))
+    -- a key is out, and the loop ends
+    pub emits : (value : ℕ) (last : Bool) → p .outcome ≡ Emit value last → goesOn whole last ≡ false
+        → (r : Advanced) → r ≡ advancedOf w (emittedBy whole value last (keys + 1) (moves + 1) (record { ctx = p .ctx; buf = b; stack = stack })) → r ≡ advanceBy whole w image
+    unfolding pushing afterBy counted
+    emits value last e t r g = g ∙ comes _ (pick-off _ (goesOn whole last) refl _ _ _ t refl ∙ m .same (Emit value last) e)
 
+    -- the loop ends without a key, with the answer a
+    module _ (a : Answer) (r : Advanced) (k : ℕ) (g : r ≡ advancedOf w (cameTo a false k (moves + 1) (record { ctx = p .ctx; buf = b; stack = stack }))) where
       pub exhausts : p .outcome ≡ Exhausted → a ≡ Nothing → k ≡ keys → r ≡ advanceBy whole w image
       unfolding pushing afterBy counted
       exhausts e u v = g ∙ rw (u, v) (comes _ (m .same Exhausted e))

@@ -17,7 +17,7 @@ module _ (image : List ℕ) (kind : ℕ) (bound : List ℕ) where
   unfolding afterBy counted after pick
   key-after n h keys moves next Continue = h keys moves next
   key-after n h keys moves next (Push root) = h keys moves next
-  key-after n h keys moves next (Emit value) = refl
+  key-after n h keys moves next (Emit value last) = refl
   key-after n h keys moves next Exhausted = refl
   key-after n h keys moves next Fault = refl
 

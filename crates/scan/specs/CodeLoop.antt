@@ -4,7 +4,7 @@ use Rattle.base.specs.Kit.{Bool, true, false, not, _&&_, List, _≡_, ℕ, zero
 use Rattle.base.specs.Pick.{pick}
 use Rattle.search.specs.Traversal.{leafThere}
 use Rattle.moves.specs.CodeMoves.{InRange}
-use Rattle.scan.specs.Types.{ScanState, ScanStateStart as Start, ScanStateRetry as Retry, ScanStateFindNext as FindNext, Down, Up, ScanCtx, Outcome, Continue, Push, Emit, Exhausted, OutcomeFault as Fault, LayerContext, WalkStateFindNext as Next, Walk, Answer, Key, Nothing, Declined, LeafEnd, Slow, LeafEndPast as Past, LeafEndFault as Gone, Spent, Along, Advanced}
+use Rattle.scan.specs.Types.{ScanState, ScanStateStart as Start, ScanStateRetry as Retry, ScanStateFindNext as FindNext, Down, Up, ScanCtx, Outcome, Continue, Push, Emit, Exhausted, OutcomeFault as Fault, LayerContext, WalkStateFindNext as Next, Walk, Answer, Key, Nothing, Declined, LeafEnd, Slow, Bound, LeafEndFault as Gone, Spent, Along, Advanced}
 use Rattle.walk.specs.Walk.{walkOk}
 use Rattle.scan.specs.Machine.{Scan, move, Ran, isEnded, scanOf, finished}
 
@@ -18,7 +18,7 @@ Begun w image tested = (walkOk w (length image) ≡ true) × (tested ≡ true �
 unfoldable pub counted : Outcome → ℕ → ℕ
 counted Continue n = n
 counted (Push root) n = n
-counted (Emit value) n = n + 1
+counted (Emit value last) n = n + 1
 counted Exhausted n = n
 counted Fault n = n
 
@@ -27,16 +27,27 @@ pub record Run : Type 0 where
   pub keys : ℕ
   pub ran : Ran
 
+abbrev pub cameTo : Answer → Bool → ℕ → ℕ → Scan → Run
+cameTo answer last keys moves s = record { keys = keys; ran = record { answer = answer; last = last; moves = moves; scan = s } }
+
+-- A count goes on past a key, and is at its end with the last; a step hands it out.
+abbrev pub goesOn : Bool → Bool → Bool
+goesOn whole last = whole && not last
+
+abbrev pub emittedBy : Bool → ℕ → Bool → ℕ → ℕ → Scan → Run
+emittedBy whole value last keys moves s =
+    pick whole (cameTo Nothing false keys moves s) (cameTo (Key (s .ctx .cursor .offset + s .ctx .cursor .len) value) last keys moves s)
+
 unfoldable pub afterBy : Bool → Outcome → ℕ → ℕ → Scan → Run → Run
 afterBy whole Continue keys moves s rest = rest
 afterBy whole (Push root) keys moves s rest = rest
-afterBy whole (Emit value) keys moves s rest =
-    pick whole rest (record { keys = keys; ran = record { answer = Key (s .ctx .cursor .offset + s .ctx .cursor .len) value; moves = moves; scan = s } })
-afterBy whole Exhausted keys moves s rest = record { keys = keys; ran = record { answer = Nothing; moves = moves; scan = s } }
-afterBy whole Fault keys moves s rest = record { keys = keys; ran = record { answer = Declined 22; moves = moves; scan = s } }
+afterBy whole (Emit value last) keys moves s rest =
+    pick (goesOn whole last) rest (emittedBy whole value last keys moves s)
+afterBy whole Exhausted keys moves s rest = cameTo Nothing false keys moves s
+afterBy whole Fault keys moves s rest = cameTo (Declined 22) false keys moves s
 
 unfoldable pub runBy : Bool → List ℕ → ℕ → List ℕ → ℕ → ℕ → ℕ → Scan → Run
-runBy whole image kind bound zero keys moves s = record { keys = keys; ran = record { answer = Declined 23; moves = moves; scan = s } }
+runBy whole image kind bound zero keys moves s = cameTo (Declined 23) false keys moves s
 runBy whole image kind bound (suc n) keys moves s =
     let m = move image kind bound s in
     let k = counted (m .outcome) keys in
@@ -78,14 +89,14 @@ pub record AfterKey (c : ScanCtx) : Type 0 where
 
 abbrev pub isSlow : LeafEnd → Bool
 isSlow Slow = true
-isSlow Past = false
+isSlow Bound = false
 isSlow Gone = false
 isSlow Spent = false
 
 -- the loop's answer where the moves along a leaf are its last
 abbrev pub leftAnswer : LeafEnd → Answer
 leftAnswer Slow = Declined 23
-leftAnswer Past = Nothing
+leftAnswer Bound = Nothing
 leftAnswer Gone = Declined 22
 leftAnswer Spent = Declined 23
 
@@ -100,7 +111,7 @@ alongWith end c keys moves = record { end = end; ctx = c; keys = keys; moves = m
 pub record AlongFrom (image : List ℕ) (kind : ℕ) (bound buf : List ℕ) (c : ScanCtx) (keys moves : ℕ) (r : Along) (b : List ℕ) : Type 0 where
   pub same : (stack : List LayerContext) →
       (let s : Scan = record { ctx = r .ctx; buf = b; stack = stack } in
-      pick (isSlow (r .end)) (ahead image kind bound (r .keys) (r .moves) s) (record { keys = r .keys; ran = record { answer = leftAnswer (r .end); moves = r .moves; scan = s } }))
+      pick (isSlow (r .end)) (ahead image kind bound (r .keys) (r .moves) s) (cameTo (leftAnswer (r .end)) false (r .keys) (r .moves) s))
       ≡ ahead image kind bound keys moves (record { ctx = c; buf = buf; stack = stack })
   pub after : AfterKey (r .ctx)
   pub in-range : InRange (r .ctx .depth) (r .ctx)

@@ -1,3 +1,4 @@
 pub mod Types
 pub mod Machine
+pub mod MovesOn
 pub mod CodeLoop

@@ -30,7 +30,7 @@ stacked c stack = set stack (c .depth) (layerOf c)
 unfoldable pub pushing : Outcome → Scan → Moved
 pushing (Push root) s = record { outcome = Continue; scan = record { ctx = entered root (s .ctx); buf = s .buf; stack = stacked (s .ctx) (s .stack) } }
 pushing Continue s = record { outcome = Continue; scan = s }
-pushing (Emit value) s = record { outcome = Emit value; scan = s }
+pushing (Emit value last) s = record { outcome = Emit value last; scan = s }
 pushing Exhausted s = record { outcome = Exhausted; scan = s }
 pushing Fault s = record { outcome = Fault; scan = s }
 
@@ -67,22 +67,23 @@ moveIn z image kind bound s =
 unfoldable pub move : List ℕ → ℕ → List ℕ → Scan → Moved
 move image kind bound s = moveIn (s .ctx .state) image kind bound s
 
--- What a run of moves comes to.
+-- What a run of moves comes to; `last` tells that its answer is the key exactly at the included end.
 pub record Ran : Type 0 where
   pub answer : Answer
+  pub last : Bool
   pub moves : ℕ
   pub scan : Scan
 
 unfoldable pub after : Outcome → ℕ → Scan → Ran → Ran
 after Continue moves s rest = rest
 after (Push root) moves s rest = rest
-after (Emit value) moves s rest = record { answer = Key (s .ctx .cursor .offset + s .ctx .cursor .len) value; moves = moves; scan = s }
-after Exhausted moves s rest = record { answer = Nothing; moves = moves; scan = s }
-after Fault moves s rest = record { answer = Declined 22; moves = moves; scan = s }
+after (Emit value last) moves s rest = record { answer = Key (s .ctx .cursor .offset + s .ctx .cursor .len) value; last = last; moves = moves; scan = s }
+after Exhausted moves s rest = record { answer = Nothing; last = false; moves = moves; scan = s }
+after Fault moves s rest = record { answer = Declined 22; last = false; moves = moves; scan = s }
 
 -- Moves until a key is out, the end or 22, n at most: "23: a call that would make more moves than the image has bytes".
 unfoldable pub run : List ℕ → ℕ → List ℕ → ℕ → ℕ → Scan → Ran
-run image kind bound zero moves s = record { answer = Declined 23; moves = moves; scan = s }
+run image kind bound zero moves s = record { answer = Declined 23; last = false; moves = moves; scan = s }
 run image kind bound (suc n) moves s =
     let m = move image kind bound s in
     let rest = run image kind bound n (moves + 1) (m .scan) in
@@ -138,14 +139,19 @@ walkOf w state s = record {
   state = state;
 }
 
+-- 02 [12]: "A walk that hands out the key exactly at its end is ended there".
+abbrev pub afterKey : Bool → WalkState
+afterKey true = Ended
+afterKey false = FindNext
+
 -- "A declined call returns its number, zero elsewhere, and any walk as it came."
-abbrev pub stepped : Walk → Answer → ℕ → Scan → Stepped
-stepped w (Key len value) moves s = record { answer = Key len value; moves = moves; walk = walkOf w FindNext s }
-stepped w Nothing moves s = record { answer = Nothing; moves = moves; walk = walkOf w Ended s }
-stepped w (Declined n) moves s = record { answer = Declined n; moves = 0; walk = w }
+abbrev pub stepped : Walk → Answer → Bool → ℕ → Scan → Stepped
+stepped w (Key len value) last moves s = record { answer = Key len value; moves = moves; walk = walkOf w (afterKey last) s }
+stepped w Nothing last moves s = record { answer = Nothing; moves = moves; walk = walkOf w Ended s }
+stepped w (Declined n) last moves s = record { answer = Declined n; moves = 0; walk = w }
 
 unfoldable pub finished : Walk → Ran → Stepped
-finished w r = stepped w (r .answer) (r .moves) (r .scan)
+finished w r = stepped w (r .answer) (r .last) (r .moves) (r .scan)
 
 -- The moves of a step where 21 is not met and the walk is not ended.
 unfoldable pub advance : Walk → List ℕ → Stepped

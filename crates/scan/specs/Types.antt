@@ -17,7 +17,7 @@ pub use Rattle.node.specs.declared.permuter.Position.{Position}
 pub use Rattle.node.specs.declared.permuter.Slot.{Slot}
 pub use Rattle.scan.specs.declared.along_leaf.Along.{Along}
 pub use Rattle.scan.specs.declared.along_leaf.LeafEnd.{LeafEnd}
-pub use Rattle.scan.specs.declared.along_leaf.LeafEnd.the-variants.{Slow, Past as LeafEndPast, Fault as LeafEndFault, Spent}
+pub use Rattle.scan.specs.declared.along_leaf.LeafEnd.the-variants.{Slow, Bound, Fault as LeafEndFault, Spent}
 pub use Rattle.scan.specs.declared.forward_ctx.Advanced.{Advanced}
 pub use Rattle.walk.specs.declared.scan_state.Answer.{Answer}
 pub use Rattle.walk.specs.declared.scan_state.Answer.the-variants.{Key, Nothing, Declined}

@@ -11,11 +11,11 @@ ghost use Rattle.base.specs.Kit.{_≡_, _≤_, length};
 ghost use Rattle.moves.specs.CodeMoves.{InRange};
 ghost use Rattle.scan.specs.CodeLoop.{isNext, isAlong, alongWith, AfterKey, AlongFrom};
 
-// How the moves along a leaf end: with one that the fast path does not make, and it has tested the leaf; with the bound; with 22; with no
-// move left.
+// How the moves along a leaf end: with one that the fast path does not make, and it has tested the leaf; with the bound, whose included end
+// is out or which a key is past; with 22; with no move left.
 pub enum LeafEnd {
     Slow,
-    Past,
+    Bound,
     Fault,
     Spent,
 }
@@ -106,12 +106,15 @@ pub fn along_leaf(
                 let stored = stored_key::store_key(image, at, slot, buf, k);
                 let next = fast_path::hand_out(image, kind, bound, buf, at, slot, stored);
                 match next {
-                    NextKey::Out { k, value: _ } => {
+                    NextKey::Out { k, value: _, last } => {
                         c = context::go_on(c, k, k.ikey);
                         keys += 1;
+                        if last {
+                            return ended_by(LeafEnd::Bound, c, keys, moves);
+                        }
                     }
                     NextKey::Past(k) => {
-                        return ended_by(LeafEnd::Past, context::go_on(c, k, k.ikey), keys, moves);
+                        return ended_by(LeafEnd::Bound, context::go_on(c, k, k.ikey), keys, moves);
                     }
                 }
             }

@@ -13,11 +13,11 @@ use walk::scan_state::LayerContext;
 use walk::scan_state::Stepped;
 use walk::scan_state::Walk;
 use walk::scan_state::WalkState;
-ghost use Rattle.base.specs.Kit.{_≡_, true, _+_, _≤_, length};
+ghost use Rattle.base.specs.Kit.{_≡_, true, false, _+_, _≤_, length};
 ghost use Rattle.scan.specs.Types.{Key};
 ghost use Rattle.walk.specs.Walk.{emptyContext, walkOk};
-ghost use Rattle.scan.specs.Machine.{isUp, layerOf, stepped, advance};
-ghost use Rattle.scan.specs.CodeLoop.{Begun, goneNumber, isSlow, leftAnswer, advanceBy, advancedOf, keysAhead};
+ghost use Rattle.scan.specs.Machine.{isUp, layerOf, afterKey, stepped, advance};
+ghost use Rattle.scan.specs.CodeLoop.{Begun, cameTo, goesOn, emittedBy, goneNumber, isSlow, leftAnswer, advanceBy, advancedOf, keysAhead};
 
 // What the loop comes to: how many keys were out, and the step that its moves make.
 pub struct Advanced {
@@ -66,16 +66,27 @@ fn key_out(c: ScanCtx, value: u64) -> Answer
     }
 }
 
-// A step by its answer, its moves, and what the loop holds after them.
+// The state of a walk that has handed out a key: ended where that key is its last.
+pub fn after_key(last: bool) -> WalkState
+    ensures { λ r. ⌜ r ≡ afterKey last ⌝ }
+{
+    if last {
+        return WalkState::Ended;
+    }
+    WalkState::FindNext
+}
+
+// A step by its answer, whether that is the last key, its moves, and what the loop holds after them.
 pub fn stepped(
     walk: Walk,
     answer: Answer,
+    last: bool,
     moves: usize,
     c: ScanCtx,
     buf: [u8; 256],
     stack: [LayerContext; 31],
 ) -> Stepped
-    ensures { λ r. ⌜ r ≡ stepped walk answer moves (record { ctx = c; buf = buf; stack = stack }) ⌝ }
+    ensures { λ r. ⌜ r ≡ stepped walk answer last moves (record { ctx = c; buf = buf; stack = stack }) ⌝ }
 {
     match answer {
         Answer::Key { len, value } => Stepped {
@@ -84,7 +95,7 @@ pub fn stepped(
                 value: value,
             },
             moves: moves,
-            walk: scan_ctx::walk_of(walk, WalkState::FindNext, c, buf, stack),
+            walk: scan_ctx::walk_of(walk, after_key(last), c, buf, stack),
         },
         Answer::Nothing => Stepped {
             answer: Answer::Nothing,
@@ -109,7 +120,7 @@ pub fn gone_number(n: usize) -> u8
     22
 }
 
-// Where the loop ends.
+// Where the loop ends, but with a key.
 fn came_to(
     walk: Walk,
     answer: Answer,
@@ -119,11 +130,45 @@ fn came_to(
     buf: [u8; 256],
     stack: [LayerContext; 31],
 ) -> Advanced
-    ensures { λ r. ⌜ r ≡ advancedOf walk (record { keys = keys; ran = record { answer = answer; moves = moves; scan = record { ctx = c; buf = buf; stack = stack } } }) ⌝ }
+    ensures { λ r. ⌜ r ≡ advancedOf walk (cameTo answer false keys moves (record { ctx = c; buf = buf; stack = stack })) ⌝ }
 {
     Advanced {
         keys: keys,
-        stepped: stepped(walk, answer, moves, c, buf, stack),
+        stepped: stepped(walk, answer, false, moves, c, buf, stack),
+    }
+}
+
+// Whether the loop goes on past a key: a count does, but for the last.
+fn goes_on(whole: bool, last: bool) -> bool
+    ensures { λ r. ⌜ r ≡ goesOn whole last ⌝ }
+{
+    if !whole {
+        return false;
+    }
+    !last
+}
+
+// Where the loop ends with a key: a step hands it out, and a count is at its end.
+fn emitted(
+    walk: Walk,
+    whole: bool,
+    value: u64,
+    last: bool,
+    keys: usize,
+    moves: usize,
+    c: ScanCtx,
+    buf: [u8; 256],
+    stack: [LayerContext; 31],
+) -> Advanced
+    requires { ⌜ c .cursor .offset + c .cursor .len ≤ 256 ⌝ }
+    ensures { λ r. ⌜ r ≡ advancedOf walk (emittedBy whole value last keys moves (record { ctx = c; buf = buf; stack = stack })) ⌝ }
+{
+    if whole {
+        return came_to(walk, Answer::Nothing, keys, moves, c, buf, stack);
+    }
+    Advanced {
+        keys: keys,
+        stepped: stepped(walk, key_out(c, value), last, moves, c, buf, stack),
     }
 }
 
@@ -133,7 +178,7 @@ fn is_slow(a: Along) -> bool
     let end = a.end;
     match end {
         LeafEnd::Slow => true,
-        LeafEnd::Past => false,
+        LeafEnd::Bound => false,
         LeafEnd::Fault => false,
         LeafEnd::Spent => false,
     }
@@ -146,7 +191,7 @@ fn left_answer(a: Along) -> Answer
     let end = a.end;
     match end {
         LeafEnd::Slow => Answer::Declined(23),
-        LeafEnd::Past => Answer::Nothing,
+        LeafEnd::Bound => Answer::Nothing,
         LeafEnd::Fault => Answer::Declined(22),
         LeafEnd::Spent => Answer::Declined(23),
     }
@@ -198,10 +243,10 @@ fn advance_by(walk: Walk, image: &[u8], whole: bool, mut tested: bool) -> Advanc
                 stack[depth] = layer_of(c);
                 c = context::in_layer(c, root, c.leaf, depth + 1);
             }
-            Outcome::Emit(value) => {
+            Outcome::Emit { value, last } => {
                 keys += 1;
-                if !whole {
-                    return came_to(walk, key_out(c, value), keys, moves, c, buf, stack);
+                if !goes_on(whole, last) {
+                    return emitted(walk, whole, value, last, keys, moves, c, buf, stack);
                 }
             }
             Outcome::Exhausted => {

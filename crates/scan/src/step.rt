@@ -45,14 +45,15 @@ fn step_next(walk: Walk, image: &[u8]) -> Stepped
             let stored = stored_key::store_key(image, at, slot, &mut buf, k);
             let next = fast_path::hand_out(image, walk.bound.kind, bound, &buf, at, slot, stored);
             match next {
-                NextKey::Out { k, value } => {
+                NextKey::Out { k, value, last } => {
                     let len = k.offset + k.len;
                     let on = context::go_on(c, k, k.ikey);
-                    forward_ctx::stepped(walk, Answer::Key { len, value }, 1, on, buf, walk.stack)
+                    let answer = Answer::Key { len, value };
+                    forward_ctx::stepped(walk, answer, last, 1, on, buf, walk.stack)
                 }
                 NextKey::Past(k) => {
                     let on = context::go_on(c, k, k.ikey);
-                    forward_ctx::stepped(walk, Answer::Nothing, 1, on, buf, walk.stack)
+                    forward_ctx::stepped(walk, Answer::Nothing, false, 1, on, buf, walk.stack)
                 }
             }
         }

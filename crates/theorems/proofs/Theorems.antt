@@ -8,7 +8,7 @@
 use Rattle.base.specs.Kit.{_≡_, true, not, map, List, [], ℕ, _≤_, _<_, eqb, length, getD}
 use Rattle.base.specs.Pick.{pick}
 use Rattle.key.specs.Order.{byteOrder}
-use Rattle.cursor.specs.RangeBound.{sideOf, isWithin, contains}
+use Rattle.cursor.specs.RangeBound.{sideOf, isWithin, contains, atEnd}
 use Rattle.cursor.specs.declared.range_bound.StartMode.{StartMode}
 use Rattle.cursor.specs.declared.range_bound.StartMode.the-variants.{Above, From}
 use Rattle.node.specs.Layout.{keyCount}
@@ -19,9 +19,13 @@ use Rattle.layering.specs.Accepted.{Obeys}
 use Rattle.layering.specs.Sieve.{past, rowOf}
 use Rattle.verify.specs.Check.{checkNumber, checkCounts, check}
 use Rattle.verify.specs.Acceptance.{treeCounts}
+use Rattle.walk.specs.Walk.{keysOf}
 use Rattle.walk.specs.Placing.{placeFault, place, placeShort}
+use Rattle.walk.specs.declared.scan_state.Answer.the-variants.{Nothing}
 use Rattle.walk.specs.declared.scan_state.Walk.{Walk}
-use Rattle.demands.specs.Demand.{Call, Lent, Demand3}
+use Rattle.scan.specs.Machine.{afterKey, step}
+use Rattle.demands.specs.Demand.{Call, steps, Lent, Demand3}
+use Rattle.demands.specs.AtEnd.{stepsOn, StopsAtEnd}
 use Rattle.survey.specs.Tally.{tallyNumber, tallyCount, tally}
 use Rattle.survey.specs.Tally01.{tally01}
 use Rattle.sheet.specs.Sheet.{sheet}
@@ -31,14 +35,17 @@ use Rattle.walk_record.specs.Record.{numbersOf, readWalk, isRecord}
 use Rattle.punchbronze.specs.Interface.{fitting, placedNumber, PutPlaced}
 use Rattle.c_demands.specs.CDemand.{CCall, CLent, CDemand3}
 use Rattle.scan.proofs.ByRule01.{ByRule01}
+use Rattle.scan.proofs.AtEnd.{endsWith}
 use Rattle.verify.proofs.Theorem as verify
 use Rattle.cursor.proofs.Bound as bound
 use Rattle.layering.proofs.Pairs as layering
 use Rattle.layering.proofs.Asked as asked
 use Rattle.layering.proofs.Lives as lives
 use Rattle.demands.proofs.Demand as demands
+use Rattle.demands.proofs.AtEnd as at-end
 use Rattle.walk.proofs.PlaceLaws as walk
 use Rattle.scan.proofs.ByRule01 as scan
+use Rattle.scan.proofs.AtEnd as ends
 use Rattle.survey.proofs.Theorem as survey
 use Rattle.survey.proofs.AsBefore as as-before
 use Rattle.listed.proofs.Listed as listing
@@ -100,6 +107,27 @@ same-row = asked.same-row
 pub contains-by-order : (kind : ℕ) (bound key : List ℕ)
     → contains kind bound key ≡ pick (eqb kind 0) true (isWithin (sideOf kind (byteOrder key bound)))
 contains-by-order = bound.contains-by-order
+
+-- 02 [12]: exactly at the included end is the key of an included bound, and no other.
+pub at-end-own : (key : List ℕ) → atEnd 1 key key ≡ true
+at-end-own = bound.at-end-own
+
+pub at-end-only : (kind : ℕ) (bound key : List ℕ) → atEnd kind bound key ≡ true → (kind ≡ 1) × (key ≡ bound)
+at-end-only = bound.at-end-only
+
+-- A walk that hands out that key is ended there, any other walk that hands out a key is not; and its next call answers none with zero moves.
+-- Over any bytes, of any walk whose buffer and stack have their lengths.
+pub ended-at-end : (w : Walk) (image : List ℕ) → length (w .cursor .buf) ≡ 256 → length (w .stack) ≡ 31 → keysOf (step w image .answer) ≡ 1
+    → (step w image .walk .state ≡ afterKey (endsWith w (step w image)))
+    × (endsWith w (step w image) ≡ true → step (step w image .walk) image ≡ record { answer = Nothing; moves = 0; walk = step w image .walk })
+ended-at-end = ends.ended-at-end
+
+-- Over an accepted image the answers of every list of steps are those of the machine that moved on past its end, and the moves up to the first
+-- none are fewer exactly where the end is handed out.
+pub stops-at-end : (image : List ℕ) → Bytes image → checkNumber (check image) ≡ 0 → (mode : StartMode) (cursor : List ℕ) → Bytes cursor
+    → (kind : ℕ) (bound : List ℕ) → place image mode cursor kind bound .code ≡ 0 → (calls : List Call) → Lent image calls
+    → (let w = place image mode cursor kind bound .walk in StopsAtEnd kind bound (steps w calls) (stepsOn w calls))
+stops-at-end = at-end.stops-at-end
 
 -- 02 [1]: up to eight bytes a placing begins by 01's own rule, over every image.
 pub placed-by-rule-01 : (image : List ℕ) (mode : StartMode) (cursor : List ℕ) (kind : ℕ) (bound : List ℕ)

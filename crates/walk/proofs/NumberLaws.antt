@@ -1,5 +1,5 @@
 -- The test of a walk's numbers: what the code's fourth test says, and what a walk that passes has.
-use Rattle.base.specs.Kit.{_≡_, true, false, and-eq-true-iff, ℕ, _+_, _*_, _-_, _≤_, _<_, arith, leb, leb-true, eqb-true, lt-leb, le-leb}
+use Rattle.base.specs.Kit.{_≡_, true, false, and-eq-true-iff, ℕ, _+_, _*_, _-_, _≤_, _<_, arith, leb, leb-true, eqb-true, eq-eqb, lt-leb, le-leb}
 use Rattle.walk.specs.Types.{Walk}
 use Rattle.walk.specs.Walk.{walkOk}
 
@@ -39,3 +39,16 @@ walk-fits w n e =
       kind-fits = leb-true _ _ (b .0);
       bound-fits = leb-true _ _ (b .1);
     }
+
+pub fits-walk : (w : Walk) (n : ℕ) → Ok w n → walkOk w n ≡ true
+unfolding walkOk
+fits-walk w n o =
+    rw (
+      eq-eqb (w .«image_len») n (o .length-is),
+      le-leb (w .depth) 31 (o .depth-fits),
+      eq-eqb (w .cursor .offset) (8 * w .depth) (o .offset-is),
+      le-leb (w .cursor .offset + w .cursor .len) 256 (o .end-fits),
+      le-leb (w .position .0) 15 (o .position-fits),
+      le-leb (w .bound .kind) 2 (o .kind-fits),
+      le-leb (w .bound .len) 256 (o .bound-fits),
+    )

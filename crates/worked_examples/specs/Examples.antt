@@ -114,10 +114,10 @@ table =
     ∷ walking treeA Above (97 ∷ []) 0 [] (gives checkedA (pair (97 ∷ 98 ∷ []) 9 ∷ []) none)
     ∷ walking treeA Above (97 ∷ 98 ∷ []) 0 [] (gives checkedA [] none)
     -- P5 B from "": entrance.1, entrance.2; 10 moves. P6 B above "entrance": both. P7 B from "", included "entrance.1": that one,
-    -- then none. P8 same, excluded: none.
+    -- then none; 02 [12]: "P7 adds its moves, 5 where there were 6". P8 same, excluded: none.
     ∷ walking treeB From [] 0 [] (gives checkedB (pair (entrance ++ (46 ∷ 49 ∷ [])) 4 ∷ pair (entrance ++ (46 ∷ 50 ∷ [])) 5 ∷ []) (some 10))
     ∷ walking treeB Above entrance 0 [] (gives checkedB (pair (entrance ++ (46 ∷ 49 ∷ [])) 4 ∷ pair (entrance ++ (46 ∷ 50 ∷ [])) 5 ∷ []) none)
-    ∷ walking treeB From [] 1 (entrance ++ (46 ∷ 49 ∷ [])) (gives checkedB (pair (entrance ++ (46 ∷ 49 ∷ [])) 4 ∷ []) none)
+    ∷ walking treeB From [] 1 (entrance ++ (46 ∷ 49 ∷ [])) (gives checkedB (pair (entrance ++ (46 ∷ 49 ∷ [])) 4 ∷ []) (some 5))
     ∷ walking treeB From [] 2 (entrance ++ (46 ∷ 49 ∷ [])) (gives checkedB [] none)
     -- P9 leaf with "a", "a\0", above "a": "a\0". P10 dead "a", live "b", from "": b; 02 [3]: "P10's image states 1". P11 empty leaf,
     -- above "": none, 3 moves. P12 nine-byte cursor: 11; 02 [1]: "Example P12 becomes a 257-byte cursor".

@@ -32,17 +32,10 @@ returns-2 : tie.Need-returns-2
 unfolding takeKey emitKey handOut part pick
 returns-2 c =
     let asked = c .before .before in
-    let live = asked .before .before .before .before .before .before in
+    let on = asked .before .before .before .before .before in
+    let live = on .before in
     let stored = live .before .before in
-    (rw (← stored .store-key .ensures .0, ← stored .store-key .ensures .1, found-so _ _ (live .before .live .ensures) (live .if1 .left), ← asked .before .part-of .ensures, ← asked .contains .ensures, c .before .if2 .taken, ← c .value .ensures, asked .before .before .before .before .before .go-on2 .ensures), stored .store-key .ensures .1)
-
-returns-3 : tie.Need-returns-3
-unfolding takeKey emitKey handOut part pick
-returns-3 c =
-    let asked = c .before in
-    let live = asked .before .before .before .before .before .before in
-    let stored = live .before .before in
-    (rw (← stored .store-key .ensures .0, ← stored .store-key .ensures .1, found-so _ _ (live .before .live .ensures) (live .if1 .left), ← asked .before .part-of .ensures, ← asked .contains .ensures, c .if2 .left, asked .before .before .before .before .before .go-on2 .ensures), stored .store-key .ensures .1)
+    (rw (c .outcome-on .ensures, on .go-on2 .ensures, ← stored .store-key .ensures .0, ← stored .store-key .ensures .1, found-so _ _ (live .before .live .ensures) (live .if1 .left), ← asked .before .part-of .ensures, ← asked .test .ensures, ← c .before .value .ensures), stored .store-key .ensures .1)
 
 pub take-key-spec : {M : Type 1} → statement M
 take-key-spec =
@@ -57,5 +50,5 @@ take-key-spec =
     part-of-requires
     (λ c κs. search needs)
     (λ c κs. search needs)
-    returns-2
-    returns-3)
+    (λ c κs. search needs)
+    returns-2)

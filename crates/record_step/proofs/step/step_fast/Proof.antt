@@ -12,12 +12,13 @@ use Rattle.record_step.proofs.in_place.place_of.Reads as place-of-reads
 use Rattle.key.proofs.part_of.Reads as part-of-reads
 use Rattle.moves.proofs.stored_key.store_key.Reads as store-key-reads
 use Rattle.moves.proofs.fast_path.hand_out.Reads as hand-out-reads
+use Rattle.scan.proofs.forward_ctx.after_key.Reads as after-key-reads
 use Rattle.record_step.proofs.in_place.put_key.Reads as put-key-reads
 use Rattle.walk.proofs.answer.answer_numbers.Reads as answer-numbers-reads
 use Rattle.walk_record.proofs.record.copy_words.Reads as copy-words-reads
 
 abbrev Readings : lts.Claims
-Readings = (place-of-reads.Asked, place-of-reads.Learnt, part-of-reads.Asked, part-of-reads.Learnt, store-key-reads.Asked, store-key-reads.Learnt, hand-out-reads.Asked, hand-out-reads.Learnt, put-key-reads.Asked, put-key-reads.Learnt, answer-numbers-reads.Asked, answer-numbers-reads.Learnt, copy-words-reads.Asked, copy-words-reads.Learnt)
+Readings = (place-of-reads.Asked, place-of-reads.Learnt, part-of-reads.Asked, part-of-reads.Learnt, store-key-reads.Asked, store-key-reads.Learnt, hand-out-reads.Asked, hand-out-reads.Learnt, after-key-reads.Asked, after-key-reads.Learnt, put-key-reads.Asked, put-key-reads.Learnt, answer-numbers-reads.Asked, answer-numbers-reads.Learnt, copy-words-reads.Asked, copy-words-reads.Learnt)
 
 -- what the code asks of the record
 is-ready : (c : lts.Start Readings reads.Pre reads.Post) → Steppable (c .args .numbers .now) (c .args .buf .now) (c .args .bound .now) (c .args .image .now) (c .args .slot)
@@ -47,7 +48,7 @@ add-len c =
     search needs
 
 put-key-requires : tie.Need-put-key-requires
-put-key-requires c κs = let r = is-ready (c .before .before .before .before .before .before .before .before .before .before .before .before .before .before .before .before .before .before .before .before .before .before) in (r .lengths .numbers-is, r .position-fits)
+put-key-requires c κs = let r = is-ready (c .before .before .before .before .before .before .before .before .before .before .before .before .before .before .before .before .before .before .before .before .before .before .before) in (r .lengths .numbers-is, r .position-fits)
 
 put-key-requires-2 : tie.Need-put-key-requires-2
 put-key-requires-2 c κs = let r = is-ready (c .before .before .before .before .before .before .before .before .before .before .before .before .before .before .before .before .before .before .before .before .before) in (r .lengths .numbers-is, r .position-fits)
@@ -55,12 +56,12 @@ put-key-requires-2 c κs = let r = is-ready (c .before .before .before .before .
 returns : tie.Need-returns
 returns c =
     let put = c .before .before .before .before .before .before .before .before in
-    let handed = put .before .before .before .before .before .before in
+    let handed = put .before .before .before .before .before .before .before in
     let store = handed .before .before .before .before in
     let place = store .before .before .before .before .before .before in
     let pre = place .before .before .before .before .before .before .before .pre in
-    rw (put .put-key .ensures)
-    (key-out _ _ _ _ (pre .1 .0) (pre .1 .1 .0) (pre .1 .1 .1 .0) _ (pre .0) (pre .1 .1 .1 .1 .0) _ (pre .1 .1 .1 .1 .1) _ (store .before .before .before .part-of .ensures) _ _ (rw (place .place-of .ensures) at (store .store-key .ensures .1)) _ _ (rw (place .place-of .ensures) at (sym (put .before .before .before .before .next .given .1) ∙ stored-next _ _ _ _ _ _ _ _ _ _ (store .store-key .ensures .0) (store .store-key .ensures .1) (handed .hand-out .ensures))) (c .before .before .copy-words .ensures ∙ c .before .before .before .before .before .answer-numbers .ensures))
+    rw (put .put-key .ensures, put .before .after-key .ensures)
+    (key-out _ _ _ _ (pre .1 .0) (pre .1 .1 .0) (pre .1 .1 .1 .0) _ (pre .0) (pre .1 .1 .1 .1 .0) _ (pre .1 .1 .1 .1 .1) _ (store .before .before .before .part-of .ensures) _ _ (rw (place .place-of .ensures) at (store .store-key .ensures .1)) _ _ _ (rw (place .place-of .ensures) at (sym (put .before .before .before .before .before .next .given .1) ∙ stored-next _ _ _ _ _ _ _ _ _ _ (store .store-key .ensures .0) (store .store-key .ensures .1) (handed .hand-out .ensures))) (c .before .before .copy-words .ensures ∙ c .before .before .before .before .before .answer-numbers .ensures))
 
 returns-2 : tie.Need-returns-2
 returns-2 c =
@@ -86,10 +87,11 @@ step-fast-spec =
     hand-out-requires
     (λ c. search needs)
     add-len
+    (λ c κs. search needs)
     put-key-requires
     (λ c κs. search needs)
     (λ c. search needs)
-    (λ c κs. let four = c .before .before .before .before .before .before .before .before .before .before .before .before .before .before .before .before .before .before .before .before .before .before .before .before .before .before .before .before .pre .0 in search needs)
+    (λ c κs. let four = c .before .before .before .before .before .before .before .before .before .before .before .before .before .before .before .before .before .before .before .before .before .before .before .before .before .before .before .before .before .pre .0 in search needs)
     (λ c. search needs)
     put-key-requires-2
     (λ c κs. search needs)

@@ -4,7 +4,7 @@ use Rattle.base.proofs.Choice.{found-so, found-not}
 use Rattle.moves.proofs.Answers.{there-in}
 use Rattle.moves.proofs.FastLaws.{fast-facts, stored-next}
 use Rattle.moves.proofs.StoredKey.{key-fits, key-buf-length}
-use Rattle.scan.proofs.AlongLaws.{Going, room, spent, gone, slow, out, past}
+use Rattle.scan.proofs.AlongLaws.{Going, room, spent, gone, slow, out, last-out, past}
 use Rattle.scan.proofs.along_leaf.along_leaf.Statement.{statement}
 use Rattle.scan.proofs.along_leaf.along_leaf.Tie as tie
 
@@ -63,36 +63,48 @@ add-keys c =
     let f = start .loop .inv .few in
     search needs
 
-loop-less : tie.Need-loop-less Inv-loop μ-loop
-loop-less c =
-    let more = c .before .before .before .before .before .before .before .before .before .before .before .before .before .before .before .before .before .loop-test .taken in
-    omega arith
-
-loop-again : tie.Need-loop-again Inv-loop μ-loop
-loop-again c =
-    let handed = c .before .before .before .before in
+returns-3 : tie.Need-returns-3 Inv-loop μ-loop
+returns-3 c =
+    let gone-on = c .before .before in
+    let handed = gone-on .before .before .before .before in
     let store = handed .before .before .before in
     let found = store .before .before .before .before .before in
     let leaf = found .before .before .before in
     let inside = leaf .before .before in
-    rw (c .go-on .ensures)
-    (out _ _ _ _ _ _ _ _ _ _ _ (inside .before .loop .inv) (inside .loop-test .taken) (found-so _ _ (leaf .before .is-leaf-there .ensures) (leaf .if1 .left)) _ (sym (found .fast-slot .ensures) ∙ store .before .before .before .fast .given .1) _ _ (store .store-key .ensures .1) _ (sym (c .before .before .next .given .1) ∙ stored-next _ _ _ _ _ _ _ _ _ _ (store .store-key .ensures .0) (store .store-key .ensures .1) (handed .hand-out .ensures)))
+    rw (c .ended-by3 .ensures, gone-on .go-on .ensures)
+    (last-out _ _ _ _ _ _ _ _ _ _ _ (inside .before .loop .inv) (inside .loop-test .taken) (found-so _ _ (leaf .before .is-leaf-there .ensures) (leaf .if1 .left)) _ (sym (found .fast-slot .ensures) ∙ store .before .before .before .fast .given .1) _ _ (store .store-key .ensures .1) _ _ (sym (gone-on .before .before .next .given .1) ∙ stored-next _ _ _ _ _ _ _ _ _ _ (store .store-key .ensures .0) (store .store-key .ensures .1) (handed .hand-out .ensures)) (c .before .if2 .taken))
+
+loop-less : tie.Need-loop-less Inv-loop μ-loop
+loop-less c =
+    let more = c .before .before .before .before .before .before .before .before .before .before .before .before .before .before .before .before .before .before .loop-test .taken in
+    omega arith
+
+loop-again : tie.Need-loop-again Inv-loop μ-loop
+loop-again c =
+    let gone-on = c .before in
+    let handed = gone-on .before .before .before .before in
+    let store = handed .before .before .before in
+    let found = store .before .before .before .before .before in
+    let leaf = found .before .before .before in
+    let inside = leaf .before .before in
+    rw (gone-on .go-on .ensures)
+    (out _ _ _ _ _ _ _ _ _ _ _ (inside .before .loop .inv) (inside .loop-test .taken) (found-so _ _ (leaf .before .is-leaf-there .ensures) (leaf .if1 .left)) _ (sym (found .fast-slot .ensures) ∙ store .before .before .before .fast .given .1) _ _ (store .store-key .ensures .1) _ _ (sym (gone-on .before .before .next .given .1) ∙ stored-next _ _ _ _ _ _ _ _ _ _ (store .store-key .ensures .0) (store .store-key .ensures .1) (handed .hand-out .ensures)) (c .if2 .left))
 
 go-on-requires-2 : tie.Need-go-on-requires-2 Inv-loop μ-loop
 go-on-requires-2 c κs = c .before .before .before .before .before .before .before .before .before .before .before .before .before .before .before .before .before .loop .inv .in-range .position
 
-returns-3 : tie.Need-returns-3 Inv-loop μ-loop
-returns-3 c =
+returns-4 : tie.Need-returns-4 Inv-loop μ-loop
+returns-4 c =
     let handed = c .before .before .before .before .before in
     let store = handed .before .before .before in
     let found = store .before .before .before .before .before in
     let leaf = found .before .before .before in
     let inside = leaf .before .before in
-    rw (c .ended-by3 .ensures, c .before .go-on2 .ensures)
+    rw (c .ended-by4 .ensures, c .before .go-on2 .ensures)
     (past _ _ _ _ _ _ _ _ _ _ _ (inside .before .loop .inv) (inside .loop-test .taken) (found-so _ _ (leaf .before .is-leaf-there .ensures) (leaf .if1 .left)) _ (sym (found .fast-slot .ensures) ∙ store .before .before .before .fast .given .1) _ _ (store .store-key .ensures .1) (sym (c .before .before .before .next2 .given .1) ∙ stored-next _ _ _ _ _ _ _ _ _ _ (store .store-key .ensures .0) (store .store-key .ensures .1) (handed .hand-out .ensures)))
 
-returns-4 : tie.Need-returns-4 Inv-loop μ-loop
-returns-4 c = rw (c .ended-by4 .ensures) (spent _ _ _ _ _ _ _ _ _ _ _ (c .before .before .loop .inv) (c .before .loop-test .left))
+returns-5 : tie.Need-returns-5 Inv-loop μ-loop
+returns-5 c = rw (c .ended-by5 .ensures) (spent _ _ _ _ _ _ _ _ _ _ _ (c .before .before .loop .inv) (c .before .loop-test .left))
 
 pub along-leaf-spec : {M : Type 1} → statement M
 along-leaf-spec =
@@ -116,11 +128,13 @@ along-leaf-spec =
     (λ c. search needs)
     go-on-requires
     add-keys
+    (λ c κs. search needs)
+    returns-3
     loop-less
     loop-again
     (λ c. search needs)
     go-on-requires-2
     (λ c κs. search needs)
-    returns-3
+    returns-4
     (λ c κs. search needs)
-    returns-4)
+    returns-5)

@@ -1,13 +1,13 @@
 -- Each answer has its arm.
 use Rattle.base.specs.Kit.{needs}
-use Rattle.base.proofs.Needs.{five}
+use Rattle.base.proofs.Needs.{six}
 use Rattle.scan.proofs.forward_ctx.stepped.Statement.{statement}
 use Rattle.scan.proofs.forward_ctx.stepped.Tie as tie
 
 pub stepped-spec : {M : Type 1} → statement M
 stepped-spec =
     tie.close
-    (five tie.spec (search needs)
-    (λ c. rw (c .before .before .answer .given .1, c .walk-of .ensures))
+    (six tie.spec (search needs)
+    (λ c. rw (c .before .before .before .answer .given .1, c .walk-of .ensures, c .before .after-key .ensures))
     (λ c. rw (c .before .enum-told .given .1, c .walk-of2 .ensures))
     (λ c. rw (c .before .answer2 .given .1)))

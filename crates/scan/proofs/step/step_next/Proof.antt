@@ -133,7 +133,7 @@ returns-3 c =
     let fast = store .before .before .before .before .before .before .before .before in
     let made = fast .before .before .before .before .before in
     c .stepped .ensures ∙ rw (c .before .before .go-on .ensures, made .ctx-of .ensures)
-    (out _ _ (start made .pre .1) (there made) _ (slot-is fast) _ (store .before .before .before .part-of .ensures) _ _ (rw (made .ctx-of .ensures) at (store .store-key .ensures .1)) _ (rw (made .ctx-of .ensures) at (sym (c .before .before .before .before .before .next .given .1) ∙ stored-next _ _ _ _ _ _ _ _ _ _ (store .store-key .ensures .0) (store .store-key .ensures .1) (handed .hand-out .ensures))))
+    (out _ _ (start made .pre .1) (there made) _ (slot-is fast) _ (store .before .before .before .part-of .ensures) _ _ (rw (made .ctx-of .ensures) at (store .store-key .ensures .1)) _ _ (rw (made .ctx-of .ensures) at (sym (c .before .before .before .before .before .next .given .1) ∙ stored-next _ _ _ _ _ _ _ _ _ _ (store .store-key .ensures .0) (store .store-key .ensures .1) (handed .hand-out .ensures))))
 
 returns-4 : tie.Need-returns-4
 returns-4 c =
