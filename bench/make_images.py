@@ -2,9 +2,9 @@
 """Makes the images that bench/run times, those that are not there yet, and prints their names:
     bench/make_images.py FOLDER [pages | stack | bound | rows]
 
-Keys are random bytes, the same ones each time. Leaves are full, no slot is dead, and internodes have sixteen children. With `pages` the
-images are those for pages, whose names have 200 bytes; with `stack` the deepest that can be accepted, and one of short keys. With `bound`
-a line has an image's name and its last key in hex; with `rows` the files are names of one length in ascending order, and a line has the
+Keys are random bytes, the same ones each time. Leaves are full, no slot is dead but in `dead-behind`, and internodes have sixteen children.
+With `pages` the images are those for pages, whose names have 200 bytes; with `stack` the deepest that can be accepted, and one of short keys.
+With `bound` a line has an image's name and its last live key in hex; with `rows` the files are names of one length in ascending order, and a line has the
 file's name, the length, and in hex the name that three of four do not come after.
 """
 import os
@@ -12,7 +12,7 @@ import random
 import sys
 
 sys.path.insert(0, os.path.join(os.path.dirname(os.path.dirname(os.path.abspath(__file__))), "tools"))
-from layout import Internode, Leaf, Slot, build, tree_of
+from layout import Internode, Leaf, Slot, build, leaves, tree_of
 
 SHORT = 440_000  # 28 bytes of image a key: below the 16 MiB that an image may have
 
@@ -84,12 +84,14 @@ def sharing(r, n, shared, low, high):
     return (front + tail for tail in drawn(r, n, low, high))
 
 
-# names that share their first thirty bytes, and two shapes that the first table has
+# names that share their first thirty bytes, two shapes that the first table has, and one of these with dead keys behind the first LIVE
 BOUND = {
     "thirty": lambda r: sharing(r, 30_000, 30, 1, 16),
     "suffix": IMAGES["suffix"],
     "short": IMAGES["short"],
+    "dead-behind": IMAGES["short"],
 }
+LIVE = {"dead-behind": 2_000}
 
 # by the bytes shared and the bytes in all
 ROWS = [(30, 31), (30, 32), (30, 40), (200, 208), (0, 40), (0, 8), (0, 4)]
@@ -105,15 +107,19 @@ def rows(folder):
 
 
 def image_of(path, name, keys):
-    """An image of the keys that are drawn for its name, written where it is not there yet; the keys and their values."""
+    """An image of the keys that are drawn for its name, written where it is not there yet; the live ones."""
     r = random.Random(name)
     pairs = {key: r.randrange(1 << 64) for key in keys(r)} if keys else {}
+    live = sorted(pairs)[:LIVE.get(name)]
     if not os.path.exists(path):
-        image = build(tree_of(pairs) if keys else deepest())
+        tree = tree_of(pairs) if keys else deepest()
+        if name in LIVE:
+            for slot in (slot for leaf in leaves(tree) for slot in leaf.slots):
+                slot.live = slot.part <= live[-1]
         with open(path + ".part", "wb") as f:
-            f.write(image)
+            f.write(build(tree))
         os.rename(path + ".part", path)
-    return pairs
+    return live
 
 
 def main():

@@ -24,7 +24,7 @@ use Rattle.demands.specs.Demand.{Call, steps, Lent, Said, handsOut, none
 use Rattle.demands.specs.AtEnd.{stepsOn, isNone, upToNone, isEnd, isAny, StopsAtEnd}
 use Rattle.demands.proofs.Relation.{resumed}
 use Rattle.demands.proofs.Run.{Came, out, end}
-use Rattle.demands.proofs.Steps.{admitted, Stage, ended, going, Walks, Paid, walk-ok, by-step, pays, other-length, all-steps}
+use Rattle.demands.proofs.Steps.{admitted, Stage, ended, going, Walks, Paid, goes-on, walk-ok, by-step, pays, other-length, all-steps}
 use Rattle.demands.proofs.Whole.{taken, bound-kind, bound-length, bound-tests, stage, walks, few-moves}
 
 -- THE MACHINE THAT MOVES ON: a step that says none is the same there.
@@ -98,13 +98,7 @@ module _ (image : List ℕ) (B : RangeBound) (kind-ok : B .kind ≤ 2) (len-ok :
   turned w c h k (out x c′ true n s e m g fit rep key at) =
       let gone = end-is-last (B .kind) bytes x (left (admitted B) c′) (subst Ascending e (h .ascends)) (front-passes (admitted B) (rest c′)) (sym at) in
       parts c′ refl (ap (atEnd (B .kind) bytes) (sym key) ∙ sym at) refl refl
-      (record {
-        same-length = h .same-length;
-        same-bound = h .same-bound;
-        fit = record { place = fit .place; deep = fit .deep; within = fit .within; position = fit .position };
-        stage = going refl rep;
-        ascends = subst Ascending e (h .ascends) .1;
-      })
+      (goes-on image B kind-ok len-ok w s (h .same-length) (h .same-bound) fit c′ rep (subst Ascending e (h .ascends) .1))
       refl gone (omega arith)
   turned w c h k (end n s e m g fit) = same refl refl
 

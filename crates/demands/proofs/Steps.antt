@@ -4,7 +4,7 @@
 use Rattle.base.specs.Kit.{_≡_, refl, ap, sym, _∙_, subst, List, [], _∷_, Bool, true, false, not, inl, inr, ℕ, _+_, _*_, _≤_, arith, length, take, le-leb, eq-eqb, ne-eqb}
 use Rattle.base.specs.Pick.{pick}
 use Rattle.cursor.specs.RangeBound.{contains}
-use Rattle.demands.specs.Types.{RangeBound, Ended, Walk, Nothing, Declined, Stepped}
+use Rattle.demands.specs.Types.{RangeBound, WalkStateFindNext as FindNext, Ended, Walk, Nothing, Declined, Stepped}
 use Rattle.layering.specs.Ascending.{Ascending}
 use Rattle.layering.proofs.Sieve.{front, front-passes}
 use Rattle.layering.proofs.Bound.{end-is-last}
@@ -12,7 +12,7 @@ use Rattle.layering.proofs.Walk.{Conf, over, rest, left, pot}
 use Rattle.moves.specs.CodeMoves.{InRange}
 use Rattle.walk.specs.Walk.{numberOf, keysOf, lenOf, valueOf, walkOk}
 use Rattle.walk.proofs.NumberLaws.{fits-walk}
-use Rattle.scan.specs.Machine.{Ran, run, isEnded, ctxOf, scanOf, finished, advance, step}
+use Rattle.scan.specs.Machine.{Scan, Ran, run, isEnded, ctxOf, scanOf, walkOf, finished, advance, step}
 use Rattle.scan.specs.CodeLoop.{runBy, allBy, keysAhead, keysLeft}
 use Rattle.lent.proofs.Same.{step-as}
 use Rattle.demands.specs.Demand.{Call, steps, Lent, Said, handsOut, declines, saidBy, said, movesOf, own, headSaid, tailOf, due, Foreign}
@@ -67,45 +67,49 @@ module _ (image : List ℕ) (B : RangeBound) where
           bound-fits = subst (λ (z : RangeBound). z .len ≤ 256) (sym (h .same-bound)) len-ok;
         })
 
-    -- a run is over: with a key, which at the included end is the last that is left; or with none
-    finishes : (w : Walk) (c : Conf) → w .«image_len» ≡ length image → w .bound ≡ B → Ascending (left (admitted B) c) → {r : Ran}
-        → Came image (B .kind) (take (B .len) (B .key)) c 0 r → Paid c (finished w r)
-    unfolding finished saidBy numberOf keysOf lenOf valueOf pick headSaid tailOf scanOf resumed left rest front pot Ascending
-    finishes w c a b asc (out x c′ false n s e m h fit rep key at) = record {
-      to = c′;
-      walks = record {
+    -- the walk after a run: it goes on behind a key, or is ended
+    module _ (w : Walk) (s : Scan) (a : w .«image_len» ≡ length image) (b : w .bound ≡ B) (fit : InRange (s .ctx .depth) (s .ctx)) where
+      pub goes-on : (c : Conf) → Rep image (B .kind) (take (B .len) (B .key)) (resumed s) c → Ascending (left (admitted B) c) → Walks (walkOf w FindNext s) c
+      unfolding scanOf resumed
+      goes-on c rep asc = record {
         same-length = a;
         same-bound = b;
         fit = record { place = fit .place; deep = fit .deep; within = fit .within; position = fit .position };
         stage = going refl rep;
-        ascends = subst Ascending e asc .1;
-      };
+        ascends = asc;
+      }
+
+      is-over : Walks (walkOf w Ended s) over
+      unfolding left rest front Ascending
+      is-over = record {
+        same-length = a;
+        same-bound = b;
+        fit = record { place = fit .place; deep = fit .deep; within = fit .within; position = fit .position };
+        stage = ended refl;
+        ascends = tt;
+      }
+
+    -- a run is over: with a key, which at the included end is the last that is left; or with none
+    finishes : (w : Walk) (c : Conf) → w .«image_len» ≡ length image → w .bound ≡ B → Ascending (left (admitted B) c) → {r : Ran}
+        → Came image (B .kind) (take (B .len) (B .key)) c 0 r → Paid c (finished w r)
+    unfolding finished saidBy numberOf keysOf lenOf valueOf pick headSaid tailOf left rest front pot Ascending
+    finishes w c a b asc (out x c′ false n s e m h fit rep key at) = record {
+      to = c′;
+      walks = goes-on w s a b fit c′ rep (subst Ascending e asc .1);
       head = ap (λ (t : List ℕ). handsOut (record { key = t; value = x .value })) (sym key) ∙ ap headSaid (sym e);
       tail = ap tailOf (sym e);
       cost = omega arith;
     }
     finishes w c a b asc (out x c′ true n s e m h fit rep key at) = record {
       to = over;
-      walks = record {
-        same-length = a;
-        same-bound = b;
-        fit = record { place = fit .place; deep = fit .deep; within = fit .within; position = fit .position };
-        stage = ended refl;
-        ascends = tt;
-      };
+      walks = is-over w s a b fit;
       head = ap (λ (t : List ℕ). handsOut (record { key = t; value = x .value })) (sym key) ∙ ap headSaid (sym e);
       tail = sym (end-is-last (B .kind) (take (B .len) (B .key)) x (left (admitted B) c′) (subst Ascending e asc) (front-passes (admitted B) (rest c′)) (sym at)) ∙ ap tailOf (sym e);
       cost = omega arith;
     }
     finishes w c a b asc (end n s e m h fit) = record {
       to = over;
-      walks = record {
-        same-length = a;
-        same-bound = b;
-        fit = record { place = fit .place; deep = fit .deep; within = fit .within; position = fit .position };
-        stage = ended refl;
-        ascends = tt;
-      };
+      walks = is-over w s a b fit;
       head = ap headSaid (sym e);
       tail = ap tailOf (sym e);
       cost = omega arith;

@@ -24,7 +24,7 @@ pub use Rattle.walk.specs.declared.scan_state.Placed.{Placed}
 pub use Rattle.walk.specs.declared.scan_state.Stepped.{Stepped}
 pub use Rattle.walk.specs.declared.scan_state.Walk.{Walk}
 pub use Rattle.walk.specs.declared.scan_state.WalkState.{WalkState}
-pub use Rattle.walk.specs.declared.scan_state.WalkState.the-variants.{Start as WalkStateStart, Retry as WalkStateRetry, Ended}
+pub use Rattle.walk.specs.declared.scan_state.WalkState.the-variants.{Start as WalkStateStart, Retry as WalkStateRetry, FindNext as WalkStateFindNext, Ended}
 pub use Rattle.search.specs.declared.helper.KeyIndexedPosition.{KeyIndexedPosition}
 pub use Rattle.search.specs.declared.helper.KeyIndexedPosition.the-variants.{NotFound, Found}
 pub use Rattle.search.specs.declared.helper.Searched.{Searched}

@@ -69,7 +69,8 @@ fn ended_by(end: LeafEnd, ctx: ScanCtx, keys: usize, moves: usize) -> Along
     }
 }
 
-// Moves of the fast path from right after a key, of which `done` moves with `found` keys were made before.
+// Moves of the fast path from right after a key, of which `done` moves with `found` keys were made before. Each that does not end it hands out
+// a key, so the keys are counted by the moves.
 pub fn along_leaf(
     image: &[u8],
     kind: u8,
@@ -87,9 +88,9 @@ pub fn along_leaf(
     ensures { λ r. ⌜ AlongFrom (now (image .entry)) kind (now (bound .entry)) (now (buf .entry)) start found done r (now (buf .exit)) ⌝ }
 {
     let mut c = start;
-    let mut keys = found;
     let mut moves = done;
     while moves < image.len() {
+        let keys = found + (moves - done);
         if !traversal::is_leaf_there(image, c.leaf) {
             return ended_by(LeafEnd::Fault, c, keys, moves + 1);
         }
@@ -108,9 +109,8 @@ pub fn along_leaf(
                 match next {
                     NextKey::Out { k, value: _, last } => {
                         c = context::go_on(c, k, k.ikey);
-                        keys += 1;
                         if last {
-                            return ended_by(LeafEnd::Bound, c, keys, moves);
+                            return ended_by(LeafEnd::Bound, c, keys + 1, moves);
                         }
                     }
                     NextKey::Past(k) => {
@@ -120,5 +120,5 @@ pub fn along_leaf(
             }
         }
     }
-    ended_by(LeafEnd::Spent, c, keys, moves)
+    ended_by(LeafEnd::Spent, c, found + (moves - done), moves)
 }

@@ -1,5 +1,5 @@
--- The loop's invariant is `Going`; each way out of it has its law.
-use Rattle.base.specs.Kit.{_-_, sym, _∙_, refl, arith, needs, length}
+-- The loop's invariant is `Going`, with as many keys as moves; each way out of it has its law.
+use Rattle.base.specs.Kit.{_+_, _-_, _≡_, sym, _∙_, refl, arith, needs, length}
 use Rattle.base.proofs.Choice.{found-so, found-not}
 use Rattle.moves.proofs.Answers.{there-in}
 use Rattle.moves.proofs.FastLaws.{fast-facts, stored-next}
@@ -9,15 +9,16 @@ use Rattle.scan.proofs.along_leaf.along_leaf.Statement.{statement}
 use Rattle.scan.proofs.along_leaf.along_leaf.Tie as tie
 
 abbrev Inv-loop : tie.InvT-loop
-Inv-loop image kind bound buf₀ found done c₀ keys₀ moves₀ buf c keys moves = Going image kind bound buf₀ c₀ found done buf c keys moves
+Inv-loop image kind bound buf₀ found done c₀ moves₀ buf c moves = Going image kind bound buf₀ c₀ found done buf c (found + (moves - done)) moves
 
 abbrev μ-loop : tie.MeasureT-loop
-μ-loop image kind bound buf₀ found done c₀ keys₀ moves₀ buf c keys moves = length image - moves
+μ-loop image kind bound buf₀ found done c₀ moves₀ buf c moves = length image - moves
 
 loop-holds : tie.Need-loop-holds Inv-loop μ-loop
 loop-holds c =
     let pre = c .before .before .pre in
-    record { same = λ stack. refl; after = pre .0; in-range = pre .1 .0; long = pre .1 .1 .0; few = pre .1 .1 .1 .0; grows = omega arith; within = pre .1 .1 .1 .1 }
+    let none : c .before .before .args .found + (c .before .before .args .done - c .before .before .args .done) ≡ c .before .before .args .found = omega arith in
+    rw none (record { same = λ stack. refl; after = pre .0; in-range = pre .1 .0; long = pre .1 .1 .0; few = pre .1 .1 .1 .0; grows = omega arith; within = pre .1 .1 .1 .1 })
 
 returns : tie.Need-returns Inv-loop μ-loop
 returns c =
@@ -57,12 +58,6 @@ hand-out-requires c κs =
 go-on-requires : tie.Need-go-on-requires Inv-loop μ-loop
 go-on-requires c κs = c .before .before .before .before .before .before .before .before .before .before .before .before .before .before .before .before .before .loop .inv .in-range .position
 
-add-keys : tie.Need-add-keys Inv-loop μ-loop
-add-keys c =
-    let start = c .before .before .before .before .before .before .before .before .before .before .before .before .before .before .before .before .before .before in
-    let f = start .loop .inv .few in
-    search needs
-
 returns-3 : tie.Need-returns-3 Inv-loop μ-loop
 returns-3 c =
     let gone-on = c .before .before in
@@ -87,7 +82,10 @@ loop-again c =
     let found = store .before .before .before .before .before in
     let leaf = found .before .before .before in
     let inside = leaf .before .before in
-    rw (gone-on .go-on .ensures)
+    let start = inside .before .before .before .before in
+    let inv = inside .before .loop .inv in
+    let one : start .args .found + (inside .before .loop .moves + 1 - start .args .done) ≡ start .args .found + (inside .before .loop .moves - start .args .done) + 1 = omega (arith, inv .grows) in
+    rw (gone-on .go-on .ensures, one)
     (out _ _ _ _ _ _ _ _ _ _ _ (inside .before .loop .inv) (inside .loop-test .taken) (found-so _ _ (leaf .before .is-leaf-there .ensures) (leaf .if1 .left)) _ (sym (found .fast-slot .ensures) ∙ store .before .before .before .fast .given .1) _ _ (store .store-key .ensures .1) _ _ (sym (gone-on .before .before .next .given .1) ∙ stored-next _ _ _ _ _ _ _ _ _ _ (store .store-key .ensures .0) (store .store-key .ensures .1) (handed .hand-out .ensures)) (c .if2 .left))
 
 go-on-requires-2 : tie.Need-go-on-requires-2 Inv-loop μ-loop
@@ -106,6 +104,14 @@ returns-4 c =
 returns-5 : tie.Need-returns-5 Inv-loop μ-loop
 returns-5 c = rw (c .ended-by5 .ensures) (spent _ _ _ _ _ _ _ _ _ _ _ (c .before .before .loop .inv) (c .before .loop-test .left))
 
+-- one key more can be counted
+few-keys : tie.Need-add-ended-by-2 Inv-loop μ-loop
+few-keys c =
+    let inside = c .before .before .before .before .before .before .before .before .before .before .before .before .before .before .before .before .before .before in
+    let f = inside .before .loop .inv .few in
+    let m = inside .loop-test .taken in
+    search needs
+
 pub along-leaf-spec : {M : Type 1} → statement M
 along-leaf-spec =
     tie.close
@@ -113,6 +119,8 @@ along-leaf-spec =
     Inv-loop
     μ-loop
     loop-holds
+    (λ c. let g = c .before .loop .inv .grows in search needs)
+    (λ c. let f = c .before .loop .inv .few in search needs)
     (λ c κs. search needs)
     (λ c. search needs)
     (λ c κs. search needs)
@@ -127,7 +135,7 @@ along-leaf-spec =
     hand-out-requires
     (λ c. search needs)
     go-on-requires
-    add-keys
+    few-keys
     (λ c κs. search needs)
     returns-3
     loop-less
@@ -136,5 +144,7 @@ along-leaf-spec =
     go-on-requires-2
     (λ c κs. search needs)
     returns-4
+    (λ c. let g = c .before .loop .inv .grows in search needs)
+    (λ c. let f = c .before .loop .inv .few in search needs)
     (λ c κs. search needs)
     returns-5)
