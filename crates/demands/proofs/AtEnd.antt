@@ -1,7 +1,7 @@
 -- THE INCLUDED END (02 [12]): over an accepted image the answers are those of the machine that moved on past it, and the moves up to the first
 -- none are fewer exactly where it is handed out. The idea of the proof: both machines stand at one walk until the end is out; then nothing is
 -- left of the row, the walk is ended here, and there it makes a move or more to its none.
-use Rattle.base.specs.Kit.{_≡_, refl, ap, sym, _∙_, subst, List, [], _∷_, Bool, true, false, true≢false, false≢true, and-true, _||_, inl, inr, ℕ, _+_, _≤_, _<_, arith, length, take, getD, eq-eqb, ne-eqb}
+use Rattle.base.specs.Kit.{_≡_, refl, ap, sym, _∙_, subst, List, [], _∷_, Bool, true, false, true≢false, false≢true, and-true, inl, inr, ℕ, _+_, _≤_, _<_, arith, length, take, getD}
 use Rattle.base.specs.Pick.{pick}
 use Rattle.base.proofs.Choice.{by-test}
 use Rattle.cursor.specs.RangeBound.{atEnd, isLast, boundOf}
@@ -11,7 +11,7 @@ use Rattle.layering.specs.Ascending.{Ascending}
 use Rattle.layering.proofs.Sieve.{front, front-passes}
 use Rattle.layering.proofs.Bound.{end-is-last}
 use Rattle.layering.proofs.Size.{moves-fit}
-use Rattle.layering.proofs.Walk.{Conf, over, rest, left, pot}
+use Rattle.layering.proofs.Walk.{Conf, rest, left, pot}
 use Rattle.verify.specs.Check.{checkNumber, check}
 use Rattle.verify.proofs.Theorem.{accepted-obeys}
 use Rattle.walk.specs.Walk.{numberOf, keysOf, lenOf, valueOf}

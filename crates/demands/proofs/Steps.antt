@@ -1,7 +1,7 @@
 -- Steps of a walk, and every list of them. Proved: a step lent the walk's image says the head of what is left, and one
 -- lent another length changes nothing; hence what a list of steps says, and that its moves are no more than the
 -- potential. And one loop of moves counts as many keys as are left.
-use Rattle.base.specs.Kit.{_≡_, refl, ap, sym, _∙_, subst, List, [], _∷_, Bool, true, false, not, inl, inr, ℕ, _+_, _*_, _≤_, arith, length, take, le-leb, eq-eqb, ne-eqb}
+use Rattle.base.specs.Kit.{_≡_, refl, ap, sym, _∙_, subst, List, [], _∷_, Bool, true, false, not, inl, inr, ℕ, _+_, _≤_, arith, length, take, eq-eqb, ne-eqb}
 use Rattle.base.specs.Pick.{pick}
 use Rattle.cursor.specs.RangeBound.{contains}
 use Rattle.demands.specs.Types.{RangeBound, WalkStateFindNext as FindNext, Ended, Walk, Nothing, Declined, Stepped}

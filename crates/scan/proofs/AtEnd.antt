@@ -1,20 +1,14 @@
 -- THE THEOREM `ended-at-end` (02 [12]: "A walk that hands out the key exactly at its end is ended there; the next call answers none with zero
 -- moves", "over any image"): over any bytes, and of any walk whose two buffers and stack have their lengths.
-use Rattle.base.specs.Kit.{_≡_, refl, ap, sym, _∙_, subst, Bool, true, false, not, false≢true, List, ℕ, zero, suc, _+_, _*_, _≤_, arith, length, take, eq-eqb, le-leb, not-false}
-use Rattle.base.specs.Pick.{pick}
+use Rattle.base.specs.Kit.{_≡_, ap, sym, _∙_, Bool, true, not, List, ℕ, arith, length, take, not-false}
 use Rattle.base.proofs.Choice.{pick-ind}
-use Rattle.cursor.specs.RangeBound.{atEnd}
-use Rattle.moves.specs.CodeMoves.{InRange}
 use Rattle.walk.specs.Walk.{walkOk, keysOf, lenOf}
 use Rattle.walk.proofs.NumberLaws.{walk-fits, fits-walk}
-use Rattle.scan.specs.Types.{Walk, WalkState, Ended, Answer, Key, Nothing, Declined, Stepped}
-use Rattle.scan.specs.Machine.{Scan, Ran, run, isEnded, scanOf, afterKey, stepped, finished, advance, step}
+use Rattle.scan.specs.Types.{Walk, Answer, Key, Nothing, Declined, Stepped}
+use Rattle.scan.specs.Machine.{Scan, run, isEnded, scanOf, afterKey, stepped, finished, advance, step}
+use Rattle.scan.specs.Ends.{endsWith}
 use Rattle.scan.proofs.BeginLaws.{starts-between, step-ended}
-use Rattle.scan.proofs.Kept.{Long, IsOut, OutBy, KeptBy, run-kept}
-
--- What the bound has at the key that a step handed out.
-abbrev pub endsWith : Walk → Stepped → Bool
-endsWith w s = atEnd (w .bound .kind) (take (w .bound .len) (w .bound .key)) (take (lenOf (s .answer)) (s .walk .cursor .buf))
+use Rattle.scan.proofs.Kept.{OutBy, run-kept}
 
 module _ (w : Walk) (image : List ℕ) (buf-is : length (w .cursor .buf) ≡ 256) (stack-is : length (w .stack) ≡ 31) where
   -- a key is out: the walk's state goes by it, and its numbers are in range

@@ -6,7 +6,7 @@ use Rattle.key.specs.Part.{part}
 use Rattle.search.specs.Traversal.{leafThere}
 use Rattle.moves.specs.Moves.{passIn}
 use Rattle.moves.specs.CodeMoves.{InRange}
-use Rattle.scan.specs.Types.{ScanState, ScanStateStart as Start, ScanStateRetry as Retry, ScanStateFindNext as FindNext, Down, Up, ScanCtx, Outcome, Continue, Push, Emit, Exhausted, OutcomeFault as Fault, Pass, LayerContext, Walk, Answer, Key, Nothing, Declined, Along, Advanced}
+use Rattle.scan.specs.Types.{ScanState, ScanStateStart as Start, ScanStateRetry as Retry, ScanStateFindNext as FindNext, Down, Up, ScanCtx, Outcome, Continue, Push, Emit, Exhausted, OutcomeFault as Fault, Pass, LayerContext, Walk, Answer, Nothing, Declined, Along, Advanced}
 use Rattle.moves.proofs.Laws.{Between, Before, After, not-up, popped-in-range, entered-in-range, pass-in-range, buffer-in-range}
 use Rattle.walk.specs.Walk.{walkOk}
 use Rattle.scan.specs.Machine.{Scan, isUp, pushing, movedBy, entered, stacked, popped, unstacked, move, scanState, scanOf}

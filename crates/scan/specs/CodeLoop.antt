@@ -27,6 +27,7 @@ pub record Run : Type 0 where
   pub keys : ℕ
   pub ran : Ran
 
+-- where it ends, with an answer
 abbrev pub cameTo : Answer → Bool → ℕ → ℕ → Scan → Run
 cameTo answer last keys moves s = record { keys = keys; ran = record { answer = answer; last = last; moves = moves; scan = s } }
 

@@ -1,4 +1,5 @@
 pub mod Types
 pub mod Machine
+pub mod Ends
 pub mod MovesOn
 pub mod CodeLoop

@@ -24,6 +24,7 @@ use Rattle.walk.specs.Placing.{placeFault, place, placeShort}
 use Rattle.walk.specs.declared.scan_state.Answer.the-variants.{Nothing}
 use Rattle.walk.specs.declared.scan_state.Walk.{Walk}
 use Rattle.scan.specs.Machine.{afterKey, step}
+use Rattle.scan.specs.Ends.{endsWith}
 use Rattle.demands.specs.Demand.{Call, steps, Lent, Demand3}
 use Rattle.demands.specs.AtEnd.{stepsOn, StopsAtEnd}
 use Rattle.survey.specs.Tally.{tallyNumber, tallyCount, tally}
@@ -35,7 +36,6 @@ use Rattle.walk_record.specs.Record.{numbersOf, readWalk, isRecord}
 use Rattle.punchbronze.specs.Interface.{fitting, placedNumber, PutPlaced}
 use Rattle.c_demands.specs.CDemand.{CCall, CLent, CDemand3}
 use Rattle.scan.proofs.ByRule01.{ByRule01}
-use Rattle.scan.proofs.AtEnd.{endsWith}
 use Rattle.verify.proofs.Theorem as verify
 use Rattle.cursor.proofs.Bound as bound
 use Rattle.layering.proofs.Pairs as layering
