@@ -101,18 +101,34 @@ module _ (image : List ℕ) (kind : ℕ) (bound buf₀ : List ℕ) (c₀ : ScanC
           unfolding onward
           after-it = record { next = refl; not-due = refl; last-is = refl }
 
+          -- the bound ends them with this key, and n keys are out
+          ends : (n : ℕ) → n ≤ moves + 1 → k ≡ keyPlace image (c .leaf) slot (c .cursor)
+              → ((stack : List LayerContext) → cameTo Nothing false n (moves + 1) (scan (onward c k (k .ikey)) b stack) ≡ ahead image kind bound keys₀ moves₀ (scan c₀ buf₀ stack))
+              → AlongFrom image kind bound buf₀ c₀ keys₀ moves₀ (alongWith Bound (onward c k (k .ikey)) n (moves + 1)) b
+          unfolding onward pick
+          ends n l ek s = record {
+            same = s;
+            after = after-it;
+            in-range = goes-on ek;
+            long = long-still;
+            few = l;
+            grows = omega (arith, g .grows);
+            within = omega arith;
+            tested = λ e. absurd (false≢true e);
+          }
+
           -- the key is out; where it is the last, the count is at its end
           module _ (value : ℕ) (last : Bool) (f : Out k value last ≡ nextKey image kind bound buf (c .leaf) slot (c .cursor)) where
-            goes : (stack : List LayerContext)
+            comes : (stack : List LayerContext)
                 → pick (goesOn true last) (ahead image kind bound (keys + 1) (moves + 1) (scan (onward c k (k .ikey)) b stack)) (cameTo Nothing false (keys + 1) (moves + 1) (scan (onward c k (k .ikey)) b stack))
                 ≡ ahead image kind bound keys₀ moves₀ (scan c₀ buf₀ stack)
             unfolding onward afterBy counted pick
-            goes stack = rw eb (sym (turn image kind bound true moves keys (scan c buf stack) _ _ more (moves-out image kind bound buf stack c (g .after) there slot e k value last f)) ∙ g .same stack)
+            comes stack = rw eb (sym (turn image kind bound true moves keys (scan c buf stack) _ _ more (moves-out image kind bound buf stack c (g .after) there slot e k value last f)) ∙ g .same stack)
 
             pub out : last ≡ false → Going b (onward c k (k .ikey)) (keys + 1) (moves + 1)
             unfolding onward
             out t = record {
-              same = λ stack. pick-on _ (goesOn true last) refl _ _ _ (ap (goesOn true) t) refl ∙ goes stack;
+              same = λ stack. pick-on _ (goesOn true last) refl _ _ _ (ap (goesOn true) t) refl ∙ comes stack;
               after = after-it;
               in-range = goes-on (next-place image kind bound buf (c .leaf) slot (c .cursor) _ f);
               long = long-still;
@@ -122,28 +138,14 @@ module _ (image : List ℕ) (kind : ℕ) (bound buf₀ : List ℕ) (c₀ : ScanC
             }
 
             pub last-out : last ≡ true → AlongFrom image kind bound buf₀ c₀ keys₀ moves₀ (alongWith Bound (onward c k (k .ikey)) (keys + 1) (moves + 1)) b
-            unfolding onward pick
-            last-out t = record {
-              same = λ stack. pick-off _ (goesOn true last) refl _ _ _ (ap (goesOn true) t) refl ∙ goes stack;
-              after = after-it;
-              in-range = goes-on (next-place image kind bound buf (c .leaf) slot (c .cursor) _ f);
-              long = long-still;
-              few = omega (arith, g .few);
-              grows = omega (arith, g .grows);
-              within = omega arith;
-              tested = λ e. absurd (false≢true e);
-            }
+            last-out t =
+                ends (keys + 1) (omega (arith, g .few)) (next-place image kind bound buf (c .leaf) slot (c .cursor) _ f)
+                (λ stack. pick-off _ (goesOn true last) refl _ _ _ (ap (goesOn true) t) refl ∙ comes stack)
 
+          -- it is past the bound
           pub past : PastBound k ≡ nextKey image kind bound buf (c .leaf) slot (c .cursor)
               → AlongFrom image kind bound buf₀ c₀ keys₀ moves₀ (alongWith Bound (onward c k (k .ikey)) keys (moves + 1)) b
-          unfolding onward afterBy counted pick
-          past f = record {
-            same = λ stack. rw eb (sym (turn image kind bound true moves keys (scan c buf stack) _ _ more (moves-past image kind bound buf stack c (g .after) there slot e k f)) ∙ g .same stack);
-            after = after-it;
-            in-range = goes-on (next-place image kind bound buf (c .leaf) slot (c .cursor) _ f);
-            long = long-still;
-            few = omega (arith, g .few);
-            grows = omega (arith, g .grows);
-            within = omega arith;
-            tested = λ e. absurd (false≢true e);
-          }
+          unfolding onward afterBy counted
+          past f =
+              ends keys (omega (arith, g .few)) (next-place image kind bound buf (c .leaf) slot (c .cursor) _ f)
+              (λ stack. rw eb (sym (turn image kind bound true moves keys (scan c buf stack) _ _ more (moves-past image kind bound buf stack c (g .after) there slot e k f)) ∙ g .same stack))

@@ -1,5 +1,5 @@
 -- THE THEOREM `ended-at-end` (02 [12]: "A walk that hands out the key exactly at its end is ended there; the next call answers none with zero
--- moves", "over any image"): over any bytes, and of any walk whose two buffers and stack have their lengths.
+-- moves", "over any image"): over any bytes, and of any walk whose buffer and stack have their lengths.
 use Rattle.base.specs.Kit.{_≡_, ap, sym, _∙_, Bool, true, not, List, ℕ, arith, length, take, not-false}
 use Rattle.base.proofs.Choice.{pick-ind}
 use Rattle.walk.specs.Walk.{walkOk, keysOf, lenOf}
