@@ -4,8 +4,8 @@
 
 Keys are random bytes, the same ones each time. Leaves are full, no slot is dead but in `dead-behind`, and internodes have sixteen children.
 With `pages` the images are those for pages, whose names have 200 bytes; with `stack` the deepest that can be accepted, and one of short keys.
-With `bound` a line has an image's name and its last live key in hex; with `rows` the files are names of one length in ascending order, and a line has the
-file's name, the length, and in hex the name that three of four do not come after.
+With `bound` a line has an image's name and its last live key in hex; with `rows` the files are names of one length in ascending order, and
+a line has the file's name, the length, and in hex the name that three of four do not come after.
 """
 import os
 import random

@@ -88,8 +88,7 @@ uint8_t pb_place_from(const uint8_t *image, size_t image_len, const uint8_t *cur
                       size_t buf_len, uint8_t *bound, size_t bound_len);
 
 /* One key further. Returns 0, and then out is { 1 for a key or 0 for none, key length, value, moves }, and numbers and buf are those
- * of the walk after the step; the bound is not changed by a step. After the key that equals an included bound the walk is ended at once:
- * numbers[PB_STATE] is 3, and the next step says none with 0 moves. Else numbers and buf stay as they were, out is { 0, 0, 0, 0 }, or
+ * of the walk after the step; the bound is not changed by a step. Else numbers and buf stay as they were, out is { 0, 0, 0, 0 }, or
  * stays as it was where its length is not 4, and the number is
  *   21  the record is no walk's (lengths other than 74, 256 and 256, numbers[PB_KIND] over 255, numbers[PB_STATE] over 3,
  *       numbers[PB_MODE] over 1), or it is out of range (image length not image_len, depth over 31, offset not 8 * depth, offset plus length over 256, position
@@ -97,7 +96,9 @@ uint8_t pb_place_from(const uint8_t *image, size_t image_len, const uint8_t *cur
  *   22  the image cannot be read on;
  *   23  more moves than the image has bytes.
  * A walk that a placing put over an image that the check accepts, and that only steps over that image have changed, meets none of
- * the three where out has four places. */
+ * the three where out has four places.
+ * A step that hands out the key of an included bound leaves the walk ended, whatever the image holds behind it: numbers[PB_STATE] is 3, and
+ * the next step over that image says none with 0 moves. */
 uint8_t pb_step(uint64_t *numbers, size_t numbers_len, uint8_t *buf, size_t buf_len, const uint8_t *bound, size_t bound_len,
                 const uint8_t *image, size_t image_len, uint64_t *out, size_t out_len);
 
