@@ -10,6 +10,9 @@
 
 #include "punchbronze.h"
 
+/* The places of a step's answer. A library from before 02 [13], whose record has fewer numbers, asks for four. */
+enum { ANSWER = PB_NUMBERS < 76 ? 4 : 6 };
+
 static inline uint64_t word(const uint8_t *at)
 {
     uint64_t w;
@@ -50,11 +53,11 @@ static inline uint64_t stepped(const uint8_t *image, size_t len, uint8_t kind, c
 {
     const uint8_t none[1] = {0};
     pb_walk w;
-    uint64_t keys = 0, out[4];
+    uint64_t keys = 0, out[ANSWER];
     if (pb_place_above(image, len, none, 0, kind, bound, bound_len, w.numbers, PB_NUMBERS, w.buf, PB_BUFFER, w.bound, PB_BUFFER) != 0) {
         return 0;
     }
-    while (pb_step(w.numbers, PB_NUMBERS, w.buf, PB_BUFFER, w.bound, PB_BUFFER, image, len, out, 4) == 0 && out[0] == 1) {
+    while (pb_step(w.numbers, PB_NUMBERS, w.buf, PB_BUFFER, w.bound, PB_BUFFER, image, len, out, ANSWER) == 0 && out[0] == 1) {
         keys++;
         *sum += out[2] + out[1] + (out[1] != 0 ? w.buf[out[1] - 1] : 0);
     }

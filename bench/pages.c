@@ -45,13 +45,13 @@ static void place(pb_walk *w, size_t i)
     }
 }
 
-static int step(pb_walk *w, uint64_t out[4])
+static int step(pb_walk *w, uint64_t out[ANSWER])
 {
-    return pb_step(w->numbers, PB_NUMBERS, w->buf, PB_BUFFER, w->bound, PB_BUFFER, image, len, out, 4) == 0 && out[0] == 1;
+    return pb_step(w->numbers, PB_NUMBERS, w->buf, PB_BUFFER, w->bound, PB_BUFFER, image, len, out, ANSWER) == 0 && out[0] == 1;
 }
 
 /* What a key adds to a sum: value, length and last byte, as in bench.c. */
-static uint64_t summed(const pb_walk *w, const uint64_t out[4])
+static uint64_t summed(const pb_walk *w, const uint64_t out[ANSWER])
 {
     return out[2] + out[1] + (out[1] != 0 ? w->buf[out[1] - 1] : 0);
 }
@@ -60,7 +60,7 @@ static uint64_t summed(const pb_walk *w, const uint64_t out[4])
 static void read_row(void)
 {
     pb_walk w;
-    uint64_t out[4], counts[3];
+    uint64_t out[ANSWER], counts[3];
     if (pb_check(image, len, counts, 3) != 0) {
         stop("the check does not accept the image", 0);
     }
@@ -85,7 +85,7 @@ static void check_pages(void)
 {
     for (size_t i = 0; i + PAGE <= keys; i++) {
         pb_walk w;
-        uint64_t out[4];
+        uint64_t out[ANSWER];
         place(&w, i);
         for (size_t k = i + 1; k <= i + PAGE; k++) {
             if (!step(&w, out) || out[1] != row[k].len || out[2] != row[k].value || memcmp(w.buf, row[k].bytes, out[1]) != 0) {
@@ -111,7 +111,7 @@ static size_t name(const struct run *r, size_t n)
 /* The nanoseconds of a run, a part. */
 static double timed(const struct run *r)
 {
-    uint64_t sum = 0, due = 0, out[4];
+    uint64_t sum = 0, due = 0, out[ANSWER];
     double t = now();
     for (size_t n = 0; n < r->count; n++) {
         pb_walk w;
@@ -140,7 +140,7 @@ static double timed(const struct run *r)
 static double moves(const struct run *r)
 {
     pb_walk w;
-    uint64_t all = 0, out[4];
+    uint64_t all = 0, out[ANSWER];
     for (size_t n = 0; n < r->count; n++) {
         place(&w, name(r, n));
         all += step(&w, out) ? out[3] : 0;

@@ -16,7 +16,7 @@
 static uint8_t *image;
 static size_t image_len;
 static pb_walk walk;
-static uint64_t out[4];
+static uint64_t out[6];
 static const uint8_t none[1];
 
 static void *nothing(void *unused)
@@ -42,7 +42,7 @@ static void *place(void *unused)
 
 static void *step(void *unused)
 {
-    pb_step(walk.numbers, PB_NUMBERS, walk.buf, PB_BUFFER, walk.bound, PB_BUFFER, image, image_len, out, 4);
+    pb_step(walk.numbers, PB_NUMBERS, walk.buf, PB_BUFFER, walk.bound, PB_BUFFER, image, image_len, out, 6);
     return unused;
 }
 

@@ -44,16 +44,18 @@ enum {
     PB_ROOT = 1,
     PB_LEAF = 2,
     PB_POSITION = 3,
-    PB_OFFSET = 4,    /* of the cursor: where its layer's bytes begin in buf */
-    PB_LEN = 5,       /* of the cursor: its bytes from there on */
+    PB_OFFSET = 4,        /* of the cursor: where its layer's bytes begin in buf */
+    PB_LEN = 5,           /* of the cursor: its bytes from there on */
     PB_IKEY = 6,
     PB_DEPTH = 7,
     PB_KIND = 8,
     PB_BOUND_LEN = 9,
-    PB_STATE = 10,    /* 0 start, 1 retry, 2 find next, 3 ended */
-    PB_MODE = 11,     /* 0 above, 1 from */
-    PB_STACK = 12,
-    PB_NUMBERS = 74
+    PB_STATE = 10,        /* 0 start, 1 retry, 2 find next, 3 ended */
+    PB_MODE = 11,         /* 0 above, 1 from */
+    PB_LAST_DEPTH = 12,   /* the layer depth at which the last key was found; 0 before the first */
+    PB_COUNT = 13,        /* the keys handed out so far; a placing sets both to 0 */
+    PB_STACK = 14,
+    PB_NUMBERS = 76
 };
 
 /* A walk between calls: a record that the caller keeps. Fill it by a placing, and hand it to steps.
@@ -76,8 +78,8 @@ uint8_t pb_check(const uint8_t *image, size_t image_len, uint64_t *counts, size_
  * to 256 bytes, stored or not: placed above the last key that was handed out, a walk goes on where another stopped, and its first
  * step costs one move for each layer that the cursor leads into. Returns 0; or, with the all-zero ended walk in the record, 1 or 2
  * for the image's length and trailer, 11 for a cursor of over 256 bytes, 12 for a kind over 2, 13 for a bound key of over 256 bytes
- * (for kind 0 too); or 21 where the lengths of numbers, buf and bound are not 74, 256 and 256, and then the three stay as they were.
- * An image that the check does not accept may be placed over; its steps can then be declined with 22 or 23. */
+ * (for kind 0 too); or 21 where the lengths of numbers, buf and bound are not 76, 256 and 256, and then the three stay as they were.
+ * An image that the check does not accept may be placed over; its steps can then be declined with 21, 22 or 23. */
 uint8_t pb_place_above(const uint8_t *image, size_t image_len, const uint8_t *cursor, size_t cursor_len, uint8_t kind,
                        const uint8_t *bound_key, size_t bound_key_len, uint64_t *numbers, size_t numbers_len, uint8_t *buf,
                        size_t buf_len, uint8_t *bound, size_t bound_len);
@@ -87,18 +89,22 @@ uint8_t pb_place_from(const uint8_t *image, size_t image_len, const uint8_t *cur
                       const uint8_t *bound_key, size_t bound_key_len, uint64_t *numbers, size_t numbers_len, uint8_t *buf,
                       size_t buf_len, uint8_t *bound, size_t bound_len);
 
-/* One key further. Returns 0, and then out is { 1 for a key or 0 for none, key length, value, moves }, and numbers and buf are those
- * of the walk after the step; the bound is not changed by a step. Else numbers and buf stay as they were, out is { 0, 0, 0, 0 }, or
- * stays as it was where its length is not 4, and the number is
- *   21  the record is no walk's (lengths other than 74, 256 and 256, numbers[PB_KIND] over 255, numbers[PB_STATE] over 3,
- *       numbers[PB_MODE] over 1), or it is out of range (image length not image_len, depth over 31, offset not 8 * depth, offset plus length over 256, position
- *       over 15, kind over 2, bound length over 256), or the length of out is not 4;
+/* One key further. Returns 0, and then out is { 1 for a key or 0 for none, key length, value, moves, depth, count }, and numbers and
+ * buf are those of the walk after the step; the bound is not changed by a step. depth is the layer depth at which the last key was
+ * found, for a key this one's; count is how many keys have been handed out so far, this one with them. A none has both as they stand
+ * in the walk: 0 and 0 before the first key. Else numbers and buf stay as they were, out is six zeros, or stays as it was where its
+ * length is not 6, and the number is
+ *   21  the record is no walk's (lengths other than 76, 256 and 256, numbers[PB_KIND] over 255, numbers[PB_STATE] over 3,
+ *       numbers[PB_MODE] over 1), or it is out of range (image length not image_len, depth over 31, offset not 8 * depth, offset plus
+ *       length over 256, position over 15, kind over 2, bound length over 256, last depth over 31, count above image_len), or
+ *       the length of out is not 6; an ended walk is no exception;
  *   22  the image cannot be read on;
  *   23  more moves than the image has bytes.
  * A walk that a placing put over an image that the check accepts, and that only steps over that image have changed, meets none of
- * the three where out has four places.
- * A step that hands out the key of an included bound leaves the walk ended, whatever the image holds behind it: numbers[PB_STATE] is 3, and
- * the next step over that image says none with 0 moves. */
+ * the three where out has six places. One over an image that the check does not accept can meet 21 too, though never altered: it may
+ * hand out more keys than the image has bytes, and with the key that brings its count above image_len it is out of range.
+ * A step that hands out the key of an included bound leaves the walk ended, whatever the image holds behind it: numbers[PB_STATE] is 3,
+ * and the next step over that image says none with 0 moves (or 21, where this key has brought the count above image_len). */
 uint8_t pb_step(uint64_t *numbers, size_t numbers_len, uint8_t *buf, size_t buf_len, const uint8_t *bound, size_t bound_len,
                 const uint8_t *image, size_t image_len, uint64_t *out, size_t out_len);
 

@@ -1,23 +1,25 @@
 #!/usr/bin/env python3
-"""Writes the requests that crates/walk_table runs, from document 01's surveyed examples, 02's short form, its included end and its
-bound test, those of crates/records, from 02 [1], [12] and of the C interface, and those of crates/sheet_table, whose answers are whole
-sheets.
+"""Writes the requests that crates/walk_table runs, from document 01's surveyed examples, 02's short form, its included end, its bound
+test and its depth and count, those of crates/records, from 02 [1], [12], [13] and of the C interface, those of crates/sheet_table, whose
+answers are whole sheets, and those of crates/indented, whose answers are screens.
 
     tools/examples.py > crates/walk_table/stdin
     tools/examples.py records > crates/records/stdin
     tools/examples.py sheets > crates/sheet_table/stdin
+    tools/examples.py indented > crates/indented/stdin
 
 A request is a name, a form, the arguments of a placing and an image; for crates/records also what is altered of the walk's record.
 The answers are written by hand in the stdout beside each: keys, values and numbers from 01's and 02's
 words, the samples' keys counted in tools/images.py; moves where 01 gives them, and for 02 one Start for each layer, then as 01
-counts, up to the included end and none behind it; comparisons counted from 02's words. Nothing here works them out.
+counts, up to the included end and none behind it; depth and count, and comparisons counted, from 02's words. Nothing here works them
+out.
 """
 import sys
 
 from images import COUNT, EDITION, IDENTITY, LENGTH, ROOT, SAMPLES
 from images import changed, in_leaf, layers, nested, one_dead, suffixed, trailer, tree_a, tree_b, two_leaves
 from layout import Internode, Leaf, Slot, build, ikey
-from requests import ABOVE, BOUND, CHECK, EXCLUDED, FOREIGN, FROM, INCLUDED, LENT, MOVES, SHORT, TOTAL, UNBOUNDED, request
+from requests import ABOVE, BOUND, CHECK, EXCLUDED, FOREIGN, FROM, INCLUDED, LENT, MOVES, SHORT, STATES, TOTAL, UNBOUNDED, request
 
 K8 = b"k" * 8
 
@@ -30,6 +32,27 @@ def internode_behind():
 def one_suffix():
     """A key of eight bytes, the same with a suffix m, and one more."""
     return Leaf(Slot(K8, 1), Slot(K8, 2, suffix=b"m"), Slot(b"l", 3))
+
+
+def alone():
+    """The first key of B as a suffix."""
+    return Leaf(Slot(b"entrance", 4, suffix=b".1"))
+
+
+def at_depths():
+    """Keys at the depths 0, 1, 2, 1 and 0, in their order."""
+    below = Leaf(Slot(b".1", 2), Slot(b".2......", sub=Leaf(Slot(b"x", 3))), Slot(b".3", 4))
+    return Leaf(Slot(b"a", 1), Slot(b"entrance", sub=below), Slot(b"z", 5))
+
+
+def dead_below():
+    """A key, and behind it a dead one in a layer."""
+    return Leaf(Slot(b"a", 1), Slot(b"entrance", sub=Leaf(Slot(b".1", 2, live=False))))
+
+
+def round_and_round():
+    """A longer key before a shorter one of its ikey, in a leaf whose `next` is itself: they are handed out again and again."""
+    return changed(Leaf(Slot(b"k" + bytes(4), 5), Slot(b"k" + bytes(2), 3)), "<Q", in_leaf(392), 8)
 
 
 def surveyed():
@@ -135,9 +158,24 @@ def at_end():
         to("end-before-" + name + "-check", image, b"", UNBOUNDED, CHECK)
 
 
-# The numbers of a record that are altered below, by their index.
-LAYER_ROOT, LEAF, POSITION, OFFSET, LEN, IKEY, DEPTH, KIND, BOUND_LEN, STATE, MODE, STACK = range(1, 13)
-START, RETRY, FIND_NEXT = range(3)
+def carried():
+    """02 [13]: "The step's answer and the walk itself carry the depth at which the last key was found and how many have been handed out
+    so far". The step by value; every line has the walk after it, and no name."""
+    b = build(tree_b())
+    request("depth-of-layer", b, FROM, form=STATES)
+    request("depth-of-suffix", build(alone()), FROM, form=STATES)
+    request("depth-no-key", build(tree_a()), ABOVE, b"ab", form=STATES)
+    request("depth-0-1-2-1-0", build(at_depths()), FROM, form=STATES)
+    request("depth-below-start", build(at_depths()), FROM, b"entrance.3", form=STATES)
+    request("depth-above-start", build(at_depths()), ABOVE, b"entrance.3", form=STATES)
+    request("depth-refused", b, FROM, kind=EXCLUDED, bound=b"entrance.1", form=STATES)
+    request("depth-dead", build(dead_below()), FROM, form=STATES)
+    request("count-at-end", b, FROM, kind=INCLUDED, bound=b"entrance.2", form=STATES)
+
+
+# The numbers of a record that are altered below, by their index; HANDED is how many keys have been handed out.
+IMAGE_LEN, LAYER_ROOT, LEAF, POSITION, OFFSET, LEN, IKEY, DEPTH, KIND, BOUND_LEN, STATE, MODE, LAST_DEPTH, HANDED, STACK = range(15)
+START, RETRY, FIND_NEXT, ENDED = range(4)
 BUFFER = 256
 
 
@@ -259,6 +297,63 @@ def at_end_records():
         resume("end-tally-" + name, tree, ABOVE, b"", kind=INCLUDED, bound=end, form=TOTAL)
 
 
+def carried_records():
+    """02 [13] over the C interface: "depth is 0 and the count 0 before the first", "a none gives both as they stand"."""
+    a, b = tree_a(), tree_b()
+    resume("depth-of-layer", b, FROM, b"")
+    resume("depth-of-suffix", alone(), FROM, b"")
+    resume("depth-no-key", a, ABOVE, b"ab")
+    resume("depth-0-1-2-1-0", at_depths(), FROM, b"")
+    resume("depth-31", layers(31), FROM, b"")
+    # the depth is the key's: not that of the leaf where Start began, nor of the layer that it came to
+    resume("depth-31-start", layers(31), FROM, b"x" * 248 + b"k")
+    resume("depth-below-start", at_depths(), FROM, b"entrance.3")
+    resume("depth-above-start", at_depths(), ABOVE, b"entrance.3")
+    # a key that is refused and a dead one set nothing: in a layer, before any key is out, and behind one of the root
+    resume("depth-refused", b, FROM, b"", kind=EXCLUDED, bound=b"entrance.1")
+    resume("depth-refused-behind-a", at_depths(), FROM, b"", kind=EXCLUDED, bound=b"entrance.1")
+    resume("depth-dead", dead_below(), ABOVE, b"a")
+    resume("depth-dead-behind-a", dead_below(), FROM, b"")
+    resume("count-dead", one_dead(), FROM, b"")
+    resume("count-at-end", b, FROM, b"", kind=INCLUDED, bound=b"entrance.2")
+    # a step that is declined leaves both in the record
+    resume("count-declined-22", changed(b, "<Q", lambda t: t.slots[0].sub.at + 392, 12), FROM, b"")
+    stand = {LAST_DEPTH: 7, HANDED: 5}
+    resume("count-declined-23", changed(Leaf(), "<Q", in_leaf(392), 8), FROM, b"", stand)
+    resume("count-declined-21", b, FROM, b"", {IMAGE_LEN: 440, **stand})
+
+
+def carried_altered():
+    """02 [13] of walks that the caller altered: "21 also covers a last depth over 31 or a count above the image's length." A has 440
+    bytes, B 840."""
+    a, b = tree_a(), tree_b()
+    ended = {STATE: ENDED}
+    third = {LEAF: 8, POSITION: 2, STATE: FIND_NEXT}    # of A: `ab` is next
+    for name, more in (("", {}), ("-ended", ended), ("-find-next", third)):
+        resume("depth-last-31" + name, a, FROM, b"a", {LAST_DEPTH: 31, **more})
+        resume("depth-last-32" + name, a, FROM, b"a", {LAST_DEPTH: 32, **more})
+        resume("depth-last-2-64" + name, a, FROM, b"a", {LAST_DEPTH: 2**64 - 1, **more})
+        resume("count-439" + name, a, FROM, b"", {HANDED: 439, **more})
+        resume("count-440" + name, a, FROM, b"", {HANDED: 440, **more})
+        resume("count-441" + name, a, FROM, b"", {HANDED: 441, **more})
+        resume("count-2-64" + name, a, FROM, b"", {HANDED: 2**64 - 1, **more})
+    resume("count-441-of-840", b, FROM, b"", {HANDED: 441})
+    resume("count-840-of-840", b, FROM, b"", {HANDED: 840})
+    # a none gives both as they stand: of an ended walk, past the last key, and at a key that is refused, the first or the next
+    stand = {LAST_DEPTH: 7, HANDED: 440}
+    resume("count-stands-ended", a, FROM, b"", {**stand, **ended})
+    resume("count-stands-none", a, ABOVE, b"ab", stand)
+    resume("count-stands-refused", a, FROM, b"", stand, kind=EXCLUDED)
+    resume("count-stands-refused-next", a, FROM, b"", {**stand, **third}, kind=EXCLUDED, bound=b"ab")
+    # behind the included end a step says none where the count is the image's length, and 21 where it is one more
+    resume("count-439-at-end", a, FROM, b"", {HANDED: 439}, kind=INCLUDED)
+    resume("count-440-at-end", a, FROM, b"", {HANDED: 440}, kind=INCLUDED)
+    resume("count-440-at-end-next", a, FROM, b"", {HANDED: 440, **third}, kind=INCLUDED, bound=b"ab")
+    # a walk that hands out keys again and again
+    resume("count-round-and-round", round_and_round(), FROM, b"", {HANDED: 439})
+    resume("count-round-and-round-check", round_and_round(), FROM, b"", form=CHECK)
+
+
 def over_c():
     """The check and the tally over the C interface, with the numbers of each and which is tried first."""
     a, b = build(tree_a()), build(tree_b())
@@ -298,6 +393,21 @@ def sheets():
     request("longest-line", build(Leaf(Slot(K8, 2**64 - 1, suffix=b"k" * 248))), FROM)
     request("damaged", SAMPLES["damaged"](), FROM)
     request("no-bytes", b"", FROM)
+
+
+def indented():
+    """02 [13], "The screen indents stations by layer": images without layers and with them, a dead key, the same key in a layer and as a
+    suffix, keys of three depths in turn, the deepest layer, the sample cave, no keys, and one image that is declined."""
+    request("a", build(tree_a()), FROM)
+    request("b", build(tree_b()), FROM)
+    request("P10", build(one_dead()), FROM)
+    request("dead-below", build(dead_below()), FROM)
+    request("alone", build(alone()), FROM)
+    request("at-depths", build(at_depths()), FROM)
+    request("31-layers", build(layers(31, Leaf(Slot(b"x", 1), Slot(b"y", 2)), b"c")), FROM)
+    request("cave", SAMPLES["cave"](), FROM)
+    request("no-keys", build(Leaf()), FROM)
+    request("damaged", SAMPLES["damaged"](), FROM)
 
 
 def bounds():
@@ -357,14 +467,19 @@ def main():
         at_end()
         whole()
         bounds()
+        carried()
     elif sys.argv[1:] == ["records"]:
         whole_names()
         whole_names_any_image()
         whole_names_altered()
         at_end_records()
+        carried_records()
+        carried_altered()
         over_c()
     elif sys.argv[1:] == ["sheets"]:
         sheets()
+    elif sys.argv[1:] == ["indented"]:
+        indented()
     else:
         sys.exit(__doc__)
 

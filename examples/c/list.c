@@ -24,10 +24,10 @@ int main(int argc, char **argv)
     pb_walk walk;
     code = pb_place_from(image, len, none, 0, PB_UNBOUNDED, none, 0, walk.numbers, PB_NUMBERS, walk.buf, PB_BUFFER, walk.bound,
                          PB_BUFFER);
-    uint64_t out[4] = {0, 0, 0, 0};
+    uint64_t out[6] = {0};
     uint64_t moves = 0;
     while (code == 0) {
-        code = pb_step(walk.numbers, PB_NUMBERS, walk.buf, PB_BUFFER, walk.bound, PB_BUFFER, image, len, out, 4);
+        code = pb_step(walk.numbers, PB_NUMBERS, walk.buf, PB_BUFFER, walk.bound, PB_BUFFER, image, len, out, 6);
         if (code != 0) {
             break;
         }

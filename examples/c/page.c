@@ -21,8 +21,8 @@ static int page(const uint8_t *image, size_t len, int first, struct name *last)
                                                             PB_NUMBERS, walk.buf, PB_BUFFER, walk.bound, PB_BUFFER);
     int keys = 0;
     while (code == 0 && keys < PAGE) {
-        uint64_t out[4] = {0, 0, 0, 0};
-        code = pb_step(walk.numbers, PB_NUMBERS, walk.buf, PB_BUFFER, walk.bound, PB_BUFFER, image, len, out, 4);
+        uint64_t out[6] = {0};
+        code = pb_step(walk.numbers, PB_NUMBERS, walk.buf, PB_BUFFER, walk.bound, PB_BUFFER, image, len, out, 6);
         if (code == 0 && out[0] == 0) {
             return keys;
         }

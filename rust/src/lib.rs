@@ -77,8 +77,8 @@ extern "C" {
 
 /// A call was declined, with the specification's number: 1 and on for a fault of the image (10 where its trailer's key count is not the
 /// number of live keys), 11 for a cursor of over 256 bytes, 13 for a bound key of over 256 bytes, 21 for an image of another length than
-/// the walk's, 22 and 23 for an image that cannot be read on, which a walk never meets over the image that it was placed over where
-/// [`check`] accepts that.
+/// the walk's, or of fewer bytes than the walk has handed out keys, 22 and 23 for an image that cannot be read on. Over the image that it
+/// was placed over a walk meets none of the last three where [`check`] accepts that.
 #[derive(Clone, Copy, Debug, PartialEq, Eq)]
 pub struct Declined(pub u8);
 
@@ -161,15 +161,19 @@ pub struct Found {
     pub value: u64,
 }
 
-/// A step: the key that it found, none at the walk's end, and the moves that it took.
+/// A step: the key that it found, none at the walk's end, and the moves that it took; the layer depth at which the walk's last key was
+/// found, for a key this one's, and how many keys the walk has handed out so far, this one with them. At the walk's end these two are as
+/// they stand, 0 and 0 where there was no key.
 #[derive(Clone, Copy, Debug, PartialEq, Eq)]
 pub struct Step {
     pub found: Option<Found>,
     pub moves: u64,
+    pub depth: usize,
+    pub count: u64,
 }
 
 /// The numbers of a walk's record; `include/punchbronze.h` says where each stands.
-const NUMBERS: usize = 74;
+const NUMBERS: usize = 76;
 
 /// A walk between calls, as the record in which it crosses to the library.
 #[derive(Clone)]
@@ -217,9 +221,9 @@ impl Walk {
     }
 
     /// One key further, over the image that the walk was placed over. A declined step leaves the walk as it was. With the key of an included
-    /// bound the walk is ended at once, and the next step finds none in 0 moves.
+    /// bound the walk is ended at once, and over an image that [`check`] accepts the next step finds none in 0 moves.
     pub fn step(&mut self, image: &[u8]) -> Result<Step, Declined> {
-        let mut out = [0u64; 4];
+        let mut out = [0u64; 6];
         // SAFETY: as in `place`.
         taken(unsafe {
             pb_step(
@@ -235,9 +239,9 @@ impl Walk {
                 out.len(),
             )
         })?;
-        let [is_key, len, value, moves] = out;
+        let [is_key, len, value, moves, depth, count] = out;
         let found = if is_key == 1 { Some(Found { len: len as usize, value }) } else { None };
-        Ok(Step { found, moves })
+        Ok(Step { found, moves, depth: depth as usize, count })
     }
 
     /// The bytes of the key that the last step found.

@@ -1,6 +1,6 @@
 /* The five functions as guard.c calls them: each at both sides over equal bytes, its answer held to what documents 01 and 02 ([1],
- * [12]) and the header say of it. A call must return and leave the same at both sides, its number must be one that 01 has for it, and
- * where it is declined, the zeros must be there that it says then, and all else that it was lent must stay as it was. */
+ * [12], [13]) and the header say of it. A call must return and leave the same at both sides, its number must be one that 01 has for
+ * it, and where it is declined, the zeros must be there that it says then, and all else that it was lent must stay as it was. */
 #ifndef CALLS_H
 #define CALLS_H
 
@@ -33,6 +33,9 @@ struct walk {
 
 /* Its states. */
 enum { START, RETRY, FIND_NEXT, ENDED };
+
+/* The places of a step's answer; the last two are the depth and the count. */
+enum { ANSWER = 6 };
 
 #define SIZED {.numbers_len = PB_NUMBERS, .buf_len = PB_BUFFER, .bound_len = PB_BUFFER}
 
@@ -162,12 +165,46 @@ static int place(struct walk *w, int from, const struct ask *a) /* from is 0 or 
 static int is_foreign(const struct walk *w, size_t out_len)
 {
     const uint64_t *n = w->numbers;
-    if (out_len != 4 || !is_sized(w)) {
+    if (out_len != ANSWER || !is_sized(w)) {
         return 1;
     }
     return n[PB_STATE] > ENDED || n[PB_MODE] > 1 || n[PB_IMAGE_LEN] != image_len || n[PB_DEPTH] > 31
            || n[PB_OFFSET] != 8 * n[PB_DEPTH] || n[PB_LEN] > 256 - n[PB_OFFSET] || n[PB_POSITION] > 15 || n[PB_KIND] > 2
-           || n[PB_BOUND_LEN] > 256;
+           || n[PB_BOUND_LEN] > 256 || n[PB_LAST_DEPTH] > 31 || n[PB_COUNT] > image_len;
+}
+
+/* Steps declined with 21 for the last depth alone, for the count alone, and those of both whose walk was ended; and steps that handed
+ * out a key where the count was the image's length. */
+static struct {
+    ull depth, count, ended, last;
+} limits_met;
+
+static void count_limits(const struct walk *before, size_t out_len, const uint64_t *said, int code)
+{
+    const uint64_t *n = before->numbers;
+    limits_met.last += code == 0 && said[0] == 1 && n[PB_COUNT] == image_len;
+    if (code == 21 && is_sized(before)) {
+        struct walk shallow = *before, fresh = *before;
+        shallow.numbers[PB_LAST_DEPTH] = fresh.numbers[PB_COUNT] = 0;
+        int depth = !is_foreign(&shallow, out_len), count = !is_foreign(&fresh, out_len);
+        limits_met.depth += depth;
+        limits_met.count += count;
+        limits_met.ended += (depth || count) && n[PB_STATE] == ENDED;
+    }
+}
+
+/* 02 [13]: a step's answer and the walk carry "the depth at which the last key was found and how many have been handed out so far",
+ * and "a none gives both as they stand". The depth at which a key is found is the one that the walk then has. */
+static void must_carry(const uint64_t *before, const uint64_t *after, const uint64_t *said)
+{
+    must(said[4] == after[PB_LAST_DEPTH] && said[5] == after[PB_COUNT], "depth and count of a step are not the walk's");
+    if (said[0] == 1) {
+        must(after[PB_LAST_DEPTH] == after[PB_DEPTH], "the depth of a key");
+        must(after[PB_OFFSET] == 8 * after[PB_DEPTH] && said[1] == after[PB_OFFSET] + after[PB_LEN], "the length of a key");
+        must(after[PB_COUNT] == before[PB_COUNT] + 1, "a key is not counted");
+    } else {
+        must(after[PB_LAST_DEPTH] == before[PB_LAST_DEPTH] && after[PB_COUNT] == before[PB_COUNT], "a none changed depth or count");
+    }
 }
 
 /* Whether the key that a step handed out is exactly at the walk's included end. */
@@ -196,7 +233,7 @@ static int one_step(struct walk *w, uint64_t out[8], size_t out_len)
     must(code[0] == code[1], "two steps return different numbers");
     must(memcmp(&after[0], &after[1], sizeof *w) == 0 && memcmp(said[0], said[1], sizeof said[0]) == 0, "two steps differ");
     must(memcmp(after[0].bound, w->bound, sizeof w->bound) == 0, "a step changed the bound");
-    static const int kept[] = {0, 8, 9, 11};
+    static const int kept[] = {PB_IMAGE_LEN, PB_KIND, PB_BOUND_LEN, PB_MODE};
     for (size_t i = 0; i < sizeof kept / sizeof *kept; i++) {
         must(after[0].numbers[kept[i]] == w->numbers[kept[i]], "a step changed image length, bound or start mode");
     }
@@ -204,7 +241,7 @@ static int one_step(struct walk *w, uint64_t out[8], size_t out_len)
     must((code[0] == 21) == is_foreign(w, out_len), "21 at the wrong place");
     if (code[0] != 0) {
         must(memcmp(&after[0], w, sizeof *w) == 0, "a declined step changed the record");
-        must_say(code[0], out, said[0], out_len, 4, 8, "what a declined step left");
+        must_say(code[0], out, said[0], out_len, ANSWER, 8, "what a declined step left");
     } else {
         const uint64_t *s = said[0];
         must(s[0] <= 1 && s[1] <= 256 && s[3] <= image_len, "what a step said");
@@ -215,8 +252,10 @@ static int one_step(struct walk *w, uint64_t out[8], size_t out_len)
         must(s[0] == 0 || end || now == FIND_NEXT, "another key, and the walk is not to find the next");
         must(w->numbers[PB_STATE] != ENDED || (s[0] == 0 && s[3] == 0 && memcmp(&after[0], w, sizeof *w) == 0),
              "an ended walk moved");
+        must_carry(w->numbers, after[0].numbers, s);
     }
     count_start(w->numbers, after[0].numbers, code[0]);
+    count_limits(w, out_len, said[0], code[0]);
     *w = after[0];
     memcpy(out, said[0], sizeof said[0]);
     met[STEPS][code[0]]++;
@@ -229,16 +268,19 @@ static struct {
     ull whole, other;
 } ends;
 
-/* A step. Where it hands out the walk's included end, one more says none, without a move, and leaves the record to the byte. */
+/* A step. Where it hands out the walk's included end, one more says none, without a move, with depth and count as they stand, and
+ * leaves the record to the byte; but where that key has brought the count above the image's length, it is declined with 21. */
 static int step(struct walk *w, uint64_t out[8], size_t out_len)
 {
     int code = one_step(w, out, out_len);
     if (code == 0 && out[0] == 1 && is_at_end(w, out[1])) {
-        static const uint64_t none[4] = {0};
+        int over = w->numbers[PB_COUNT] > image_len;
+        const uint64_t due[ANSWER] = {0, 0, 0, 0, over ? 0 : out[4], over ? 0 : out[5]};
         struct walk again = *w;
         uint64_t said[8];
         memset(said, 255, sizeof said);
-        must(one_step(&again, said, 4) == 0 && memcmp(said, none, sizeof none) == 0, "a step behind the included end");
+        must(one_step(&again, said, ANSWER) == (over ? 21 : 0), "the number of a step behind the included end");
+        must(memcmp(said, due, sizeof due) == 0, "a step behind the included end");
         must(memcmp(&again, w, sizeof again) == 0, "a step behind the included end changed the record");
         ends.whole += is_whole;
         ends.other += !is_whole;

@@ -7,10 +7,11 @@
 Needs target/oracle/bin/oracle, the Rust's scan made runnable over images (oracle/build.sh), and target/bin/replay, the proved
 program (`rt check replay`). Both get the same images, accepted and damaged, cursors and bounds; every answer is compared: key,
 value, moves, and the whole walk after each call (position, leaf, root, cursor, buffer, stack). One difference is due and no other:
-a walk that hands out its included end is ended there, where the Rust moves on (`stopped`). Accepted are the images that the port's
-check takes with the numbers that the builder knows; over these the keys, and the layers that a long cursor leads into, are held
-against the builder's own as well. Up to eight bytes of cursor, above it, the Rust's loop makes the whole walk; else the Start moves
-are the oracle's, written by hand. `run` does all of it.
+a walk that hands out its included end is ended there, where the Rust moves on (`stopped`). Depth and count, which the Rust has not,
+are worked out from its lines (`counted`). Accepted are the images that the port's check takes with the numbers that the builder
+knows; over these the keys, their depths, and the layers that a long cursor leads into are held against the builder's own as well.
+Up to eight bytes of cursor, above it, the Rust's loop makes the whole walk; else the Start moves are the oracle's, written by hand.
+`run` does all of it.
 """
 import argparse
 import collections
@@ -85,10 +86,14 @@ def port(form, walks):
     return out.split("\n")[:-1] if form == CHECK else [part.split("\n") for part in out.split("\n\n")[:-1]]
 
 
-def moves_in(line):
-    """The moves of a key's line, or of a none's."""
+def number_in(line, word):
+    """The number behind a word in a key's line, or in a none's."""
     words = line.split()
-    return int(words[words.index("moves") + 1])
+    return int(words[words.index(word) + 1])
+
+
+def moves_in(line):
+    return number_in(line, "moves")
 
 
 def stopped(w, lines):
@@ -102,6 +107,23 @@ def stopped(w, lines):
         return lines, None
     walk = lines[at - 1][lines[at - 1].index(" pos "):]
     return lines[:at] + ["none moves 0" + walk, f"total {sum(map(moves_in, lines[:at]))}"], lines[at:]
+
+
+def counted(lines):
+    """The Rust's lines with the depth and the count behind the moves. 02 [13]: "The step's answer and the walk itself carry the depth
+    at which the last key was found and how many have been handed out so far; depth is 0 and the count 0 before the first", and "a none
+    gives both as they stand". A key's depth is the number of layers on the stack in its own line."""
+    depth = count = 0
+    out = []
+    for line in lines:
+        if line.startswith("key "):
+            stack = line.split(" stack ")[1]
+            depth = 0 if stack == "-" else len(stack.split(","))
+            count += 1
+        if line.startswith(("key ", "none ")):
+            line = line.replace(" pos ", f" depth {depth} count {count} pos ")
+        out.append(line)
+    return out
 
 
 def spared(behind):
@@ -265,7 +287,7 @@ def sorts(w, lines):
 class Comparison:
     def __init__(self):
         self.differ = self.keys = self.images = 0
-        self.lengths, self.cursors = set(), set()
+        self.lengths, self.depths, self.cursors = set(), set(), set()
         self.shapes, self.sorts, self.packed = collections.Counter(), collections.Counter(), collections.Counter()
         self.modes, self.starts = collections.Counter(), collections.Counter()
         self.ends = collections.Counter()
@@ -291,9 +313,12 @@ class Comparison:
 
     def walk(self, w, got, lines, start):
         want, behind = stopped(w, lines)
+        want = counted(want)
         keys = [line.split()[1] for line in want if line.startswith("key")]
+        depths = [number_in(line, "depth") for line in want if line.startswith("key")]
         self.keys += len(keys)
         self.lengths.update(len(k.strip("-")) // 2 for k in keys)
+        self.depths.update(depths)
         self.cursors.add(len(w.cursor))
         self.sorts.update(sorts(w, want))
         past = len(w.cursor) > SHORT
@@ -312,6 +337,8 @@ class Comparison:
             self.differs(f"behind the included end the Rust has {behind}", w)
         elif w.look and keys != [k.hex() or "-" for k in due(w)]:
             self.differs("keys other than the builder's", w)
+        elif w.look and depths != [w.look.depths[k] for k in due(w)]:
+            self.differs("depths other than the builder's", w)
         elif w.look and past and start != (led(w), True):
             self.differs(f"Start led into {start}, and not {led(w)}", w)
 
@@ -319,7 +346,9 @@ class Comparison:
         print(f"comparison with the Rust, seed {seed}: {count} walks, {self.keys} keys, {self.differ} differ")
         lengths = sorted(self.lengths) or [0]
         cursors = sorted(self.cursors) or [0]
-        print(f"  keys of {len(lengths)} different lengths, {lengths[0]} to {lengths[-1]} bytes")
+        depths = sorted(self.depths) or [0]
+        print(f"  keys of {len(lengths)} different lengths, {lengths[0]} to {lengths[-1]} bytes, "
+              f"found at {len(depths)} different depths, {depths[0]} to {depths[-1]}")
         print(f"  cursors of {len(cursors)} different lengths, {cursors[0]} to {cursors[-1]} bytes")
         print(f"  cursors up to eight bytes: above {self.modes[False, ABOVE]} (the Rust's loop alone), "
               f"from {self.modes[False, FROM]}")
@@ -390,7 +419,7 @@ def common_walks(r, most):
 
 def store(folder):
     """400 walks over small images: 150 in one layer, 130 through layers, 90 that meet a fault, 30 damaged that do not, all by the
-    Rust's own lines; those stored stop at the included end."""
+    Rust's own lines; those stored stop at the included end, and have depth and count."""
     oracle = Oracle()
     want = {"plain": 150, "layers": 130, "fault": 90, "damaged": 30}
     requests, answers = [], []
@@ -404,7 +433,7 @@ def store(folder):
             continue
         want[sort] -= 1
         requests.append(request(len(requests), STATES, w))
-        answers.append("\n".join(stopped(w, lines)[0]) + "\n\n")
+        answers.append("\n".join(counted(stopped(w, lines)[0])) + "\n\n")
         if not any(want.values()):
             break
     with open(os.path.join(folder, "stdin"), "wb") as f:

@@ -87,20 +87,21 @@ static int key_order(const uint8_t *a, size_t a_len, const uint8_t *b, size_t b_
     return d ? d : a_len < b_len ? -1 : a_len > b_len;
 }
 
-/* A walk over an accepted image to its end: its keys ascend past the start and lie in the bound, it is never declined, its moves are
- * at most leaves + value slots + 4 * sub-layers + 2, and its keys at most what the trailer counts, or all that, from "" unbounded.
- * How many keys. */
+/* A walk over an accepted image to its end: its keys ascend past the start and lie in the bound, it is never declined, its count is
+ * always that of the keys so far, its moves are at most leaves + value slots + 4 * sub-layers + 2, and its keys at most what the
+ * trailer counts, or all that, from "" unbounded. How many keys. */
 static uint64_t walk_whole(int from, const struct ask *a, const uint64_t counts[4])
 {
     struct walk w = SIZED;
-    uint64_t out[8] = {0}, keys = 0, moves = 0, count;
+    uint64_t out[8] = {0}, keys = 0, moves = 0, depth = 0, count;
     uint8_t last[256];
     size_t last_len = a->cursor_len;
     memcpy(last, a->cursor, last_len);
     must(place(&w, from, a) == 0, "a placing over an accepted image");
     for (;;) {
-        must(step(&w, out, 4) == 0, "a step over an accepted image was declined");
+        must(step(&w, out, ANSWER) == 0, "a step over an accepted image was declined");
         moves += out[3];
+        must(out[5] == keys + out[0], "the count is not the number of keys so far");
         if (out[0] == 0) {
             break;
         }
@@ -109,12 +110,14 @@ static uint64_t walk_whole(int from, const struct ask *a, const uint64_t counts[
         must(a->kind == 0 || end < 0 || (a->kind == 1 && end == 0), "a key past the bound");
         last_len = out[1];
         memcpy(last, w.buf, last_len);
+        depth = out[4];
         keys++;
     }
+    must(out[4] == depth, "a none has another depth than the last key, or than 0 before the first");
     must(moves <= counts[0] + counts[1] + 4 * counts[2] + 2, "more moves than 01 allows");
     memcpy(&count, image + image_len - 24, 8);
     must(from && a->cursor_len == 0 && a->kind == 0 ? keys == count : keys <= count, "the trailer counts other keys");
-    must(step(&w, out, 4) == 0 && out[0] == 0 && out[3] == 0, "an ended walk");
+    must(step(&w, out, ANSWER) == 0 && out[0] == 0 && out[3] == 0 && out[4] == depth && out[5] == keys, "an ended walk");
     return keys;
 }
 
@@ -135,9 +138,10 @@ static void put_start(struct walk *w, uint64_t depth, int from)
 static ull pages, pages_below, page_keys;
 
 /* A page resumed: after some key of a walk over an accepted image two others go on from there, same bound: one placed anew above
- * the whole key, and the walk itself with Start put into a layer that it is in. Both hand out what the first still hands out; but
- * the second hands out the key once more before that in mode from, and, by 01's rule, where the key has at most eight bytes. The
- * bytes past the key's end do not matter to it, nor do those of the layer's own ikey, which the record has as a number. */
+ * the whole key, and the walk itself with Start put into a layer that it is in. Both hand out what the first still hands out, at
+ * the same depths; but the second hands out the key once more before that in mode from, and, by 01's rule, where the key has at
+ * most eight bytes. The first of the two counts anew, the second goes on counting. The bytes past the key's end do not matter to
+ * the second, nor do those of the layer's own ikey, which the record has as a number. */
 static void resumed(const struct picture *p)
 {
     struct walk first = SIZED, anew = SIZED, ahead = SIZED, again;
@@ -146,7 +150,7 @@ static void resumed(const struct picture *p)
     draw_ask(p, &a, 0);
     must(place(&ahead, (int)below(2), &a) == 0, "a placing over an accepted image");
     for (uint64_t n = 1 + below(20); n > 0 && others[0] == 1; n--) {
-        must(step(&ahead, others, 4) == 0, "a step over an accepted image was declined");
+        must(step(&ahead, others, ANSWER) == 0, "a step over an accepted image was declined");
         if (others[0] == 1) {
             first = ahead;
             memcpy(out, others, sizeof out);
@@ -162,9 +166,12 @@ static void resumed(const struct picture *p)
     if (below(2)) {
         fill(again.buf + again.numbers[PB_OFFSET], 8);
     }
+    uint64_t counted[] = {0, out[5]};
     if (from || out[1] <= 8) {
-        must(step(&again, others, 4) == 0 && memcmp(others, out, 3 * sizeof *out) == 0, "a key is not there once more");
+        must(step(&again, others, ANSWER) == 0 && memcmp(others, out, 3 * sizeof *out) == 0, "a key is not there once more");
         must(memcmp(again.buf, first.buf, out[1]) == 0, "another key once more");
+        counted[1]++;
+        must(others[4] == out[4] && others[5] == counted[1], "depth or count of a key once more");
     }
     a.cursor_len = out[1];
     memcpy(a.cursor, first.buf, out[1]);
@@ -172,11 +179,14 @@ static void resumed(const struct picture *p)
     pages++;
     pages_below += first.numbers[PB_DEPTH] > 0;
     for (int n = 0; n < 20 && out[0] == 1; n++) {
-        must(step(&first, out, 4) == 0, "a step over an accepted image was declined");
+        must(step(&first, out, ANSWER) == 0, "a step over an accepted image was declined");
         struct walk *other[] = {&anew, &again};
         for (int i = 0; i < 2; i++) {
-            must(step(other[i], others, 4) == 0, "a step of a walk resumed was declined");
+            must(step(other[i], others, ANSWER) == 0, "a step of a walk resumed was declined");
             must(memcmp(others, out, 3 * sizeof *out) == 0 && memcmp(other[i]->buf, first.buf, out[1]) == 0, "a walk resumed");
+            must(out[0] == 0 || others[4] == out[4], "the depth of a walk resumed");
+            counted[i] += out[0];
+            must(others[5] == counted[i], "the count of a walk resumed");
         }
         page_keys += out[0];
     }
@@ -260,7 +270,7 @@ static void mend(size_t len)
 
 static void lengths(struct walk *w)
 {
-    w->numbers_len = below(16) ? PB_NUMBERS : ONE_OF(0, 1, 73, 75, 80);
+    w->numbers_len = below(16) ? PB_NUMBERS : ONE_OF(0, 1, 74, 75, 77, 80);
     w->buf_len = below(16) ? PB_BUFFER : ONE_OF(0, 1, 255, 257, 264);
     w->bound_len = below(16) ? PB_BUFFER : ONE_OF(0, 1, 255, 257, 264);
 }
@@ -294,6 +304,10 @@ static uint64_t draw_number(const uint64_t *n, size_t i, const struct picture *p
         return ONE_OF(0, 1, 2, 0, 1, 2, 2, 2, 3, 4);
     case PB_MODE:
         return ONE_OF(0, 1, 0, 1, 0, 1, 0, 1, 0, 1, 2, 255, 256, 1ull << 32, 1ull << 63, ~0ull);
+    case PB_LAST_DEPTH:
+        return ONE_OF(small, small, small, small, 0, 30, 31, 31, 31, 32, 33, 1ull << 32);
+    case PB_COUNT:
+        return ONE_OF(small, small, small, 0, here - 2, here - 1, here - 1, here, here, here, here + 1, here + 2, ~0ull);
     default:
         return offset;
     }
@@ -329,9 +343,9 @@ static void alter(struct walk *w, const struct picture *p)
 {
     int all = below(2) == 0;
     for (size_t n = all ? PB_NUMBERS : 1 + below(4); n > 0; n--) {
-        size_t i = all ? PB_NUMBERS - n : below(2) ? below(12) : below(PB_NUMBERS);
+        size_t i = all ? PB_NUMBERS - n : below(2) ? below(PB_STACK) : below(PB_NUMBERS);
         w->numbers[i] = draw_number(w->numbers, i, p);
-        if (i == 7) {
+        if (i == PB_DEPTH) {
             w->numbers[PB_OFFSET] = draw_number(w->numbers, PB_OFFSET, p);
         }
     }
@@ -350,6 +364,24 @@ static void alter(struct walk *w, const struct picture *p)
 
 /* Rounds. */
 
+/* Up to 40 steps of a walk that was placed, until one hands out no key; those that are declined for another room for the answer
+ * stand between and count nothing. 02 [13]: "After every list of steps from a fresh placing the walk's count equals the number of
+ * keys handed out." */
+static void some_steps(struct walk *w)
+{
+    uint64_t out[8], keys = 0;
+    fill(out, sizeof out);
+    for (int n = 0; n < 40; n++) {
+        size_t room = below(32) ? ANSWER : below(9);
+        int code = step(w, out, room);
+        keys += code == 0 && out[0] == 1;
+        must(w->numbers[PB_COUNT] == keys, "the count after a list of steps");
+        if (room == ANSWER && (code != 0 || out[0] == 0)) {
+            return;
+        }
+    }
+}
+
 /* Anything over the image that is shown: check, tally, a placing and some steps. */
 static void everything(const struct picture *p)
 {
@@ -366,8 +398,7 @@ static void everything(const struct picture *p)
     int checked = check(counts, below(8) ? 3 : below(5));
     tally(checked, &a, out, below(8) ? 1 : ONE_OF(0, 2));
     if (place(&w, (int)below(2), &a) == 0) {
-        for (int n = 0; n < 40 && step(&w, out, below(32) ? 4 : below(9)) == 0 && out[0] == 1; n++) {
-        }
+        some_steps(&w);
     }
     if (checked == 0 && check(counts, 3) == 0) {
         whole(p, counts);
@@ -382,11 +413,11 @@ static void altered_walk(const struct picture *p)
     fill(out, sizeof out);
     draw_ask(p, &a, 0);
     place(&w, (int)below(2), &a);
-    for (uint64_t n = below(12); n > 0 && step(&w, out, 4) == 0; n--) {
+    for (uint64_t n = below(12); n > 0 && step(&w, out, ANSWER) == 0; n--) {
     }
     alter(&w, p);
     for (uint64_t n = 1 + below(8); n > 0; n--) {
-        if (step(&w, out, below(16) ? 4 : below(9)) != 0) {
+        if (step(&w, out, below(16) ? ANSWER : below(9)) != 0) {
             alter(&w, p);
         }
         if (below(8) == 0) {
@@ -474,6 +505,35 @@ static void limits(void)
     }
 }
 
+/* A walk that nobody altered, and that hands out keys until it is out of range: over a leaf of two slots of one ikey, the longer key
+ * first, whose `next` is itself. The check declines it with 8. 02 [13]: 21 covers "a count above the image's length". */
+static void round_and_round(void)
+{
+    struct walk w = SIZED;
+    struct ask a = {.kind = PB_UNBOUNDED};
+    uint64_t counts[4] = {0}, out[8] = {0};
+    uint8_t *leaf = image + 8;
+    memset(image, 0, 440);
+    put(leaf, 1ull << 31, 4);
+    put(leaf + 4, 3, 2);
+    put(leaf + 8, 0xedcba98765432102, 8);
+    put(leaf + 16, ikey_of((const uint8_t *)"k", 1), 8);
+    put(leaf + 24, ikey_of((const uint8_t *)"k", 1), 8);
+    leaf[136] = 5;
+    leaf[137] = 3;
+    put(leaf + 392, 8, 8);
+    put(image + 440 - TRAILER, 8, 8);
+    mend(440);
+    show(440);
+    must(check(counts, 3) == 8, "the check of a leaf that is its own next");
+    must(place(&w, 1, &a) == 0, "a placing over a leaf that is its own next");
+    for (uint64_t n = 1; n <= image_len + 1; n++) {
+        must(step(&w, out, ANSWER) == 0 && out[0] == 1 && out[1] == (n % 2 ? 5 : 3) && out[5] == n, "a key round and round");
+    }
+    must(step(&w, out, ANSWER) == 21, "more keys than the image has bytes");
+    unchanged();
+}
+
 static void on_signal(int number)
 {
     char text[100];
@@ -498,6 +558,7 @@ int main(int argc, char **argv)
     make_rooms();
     state = seed;
     limits();
+    round_and_round();
     for (round_number = 1; round_number <= rounds; round_number++) {
         sorts[one_round()]++;
     }
@@ -522,6 +583,9 @@ int main(int argc, char **argv)
            starts.all, starts.below, starts.deeper, starts.deepest, starts.declined);
     printf("  included ends handed out, each with one step more: %llu over whole images, %llu over others\n", ends.whole,
            ends.other);
+    printf("  21 for the last depth alone: %llu steps, for the count alone: %llu; %llu of these walks were ended; keys handed out where "
+           "the count was the image's length: %llu\n",
+           limits_met.depth, limits_met.count, limits_met.ended, limits_met.last);
     printf("  pages resumed: %llu, %llu of them in a sub-layer; %llu keys\n", pages, pages_below, page_keys);
     printf("  %llu calls, each made twice; no signal, nothing amiss\n", calls);
 

@@ -9,11 +9,11 @@ SHAPES = ["empty leaf", "full leaf of 15", "permuted slots", "dead slot", *KEYLE
 
 
 class Look:
-    """What stands in a tree: its keys in order as (key, live), its shapes, its records, for each sub-layer the bytes that lead
-    into it, its leaves as (bytes that lead there, leaf), and the check's three numbers."""
+    """What stands in a tree: its keys in order as (key, live), the depth of the layer in which each stands, its shapes, its records,
+    for each sub-layer the bytes that lead into it, its leaves as (bytes that lead there, leaf), and the check's three numbers."""
 
     def __init__(self, root):
-        self.keys, self.shapes, self.records = [], set(), []
+        self.keys, self.depths, self.shapes, self.records = [], {}, set(), []
         self.fronts, self.places = [], []
         self.leaves = self.values = self.layers = 0
         self.layer(root, b"", 0)
@@ -47,6 +47,7 @@ class Look:
 
     def key(self, key, live, offset):
         self.keys.append((key, live))
+        self.depths[key] = offset // 8
         self.mark("dead slot", not live)
         self.mark("layer at depth 31", live and offset == 8 * DEEPEST)
         self.mark("key of 0 bytes", live and key == b"")

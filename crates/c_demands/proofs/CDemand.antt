@@ -6,14 +6,17 @@ use Rattle.base.specs.Pick.{pick}
 use Rattle.base.proofs.Choice.{by-test}
 use Rattle.layering.specs.Sieve.{rowOf}
 use Rattle.verify.specs.Check.{checkNumber, checkCounts, check}
+use Rattle.walk.specs.Walk.{nothingYet}
 use Rattle.walk.specs.Placing.{place}
 use Rattle.walk_record.specs.Record.{numbersOf}
 use Rattle.demands.specs.Demand.{due}
+use Rattle.demands.specs.HandedOut.{dueHanded}
 use Rattle.demands.proofs.Demand.{demand-3, is-taken}
+use Rattle.demands.proofs.HandedOut.{carried-due}
 use Rattle.punchbronze.specs.Interface.{fitting, placedNumber, placedNumbers, placedBuf, placedBound, PutPlaced}
 use Rattle.punchbronze.proofs.Placing.{place-keeps}
 use Rattle.c_demands.specs.Types.{StartMode, Placed}
-use Rattle.c_demands.specs.CDemand.{CCall, CLeft, Kept, CLent, made, cSaid, cMovesOf, CDemand3}
+use Rattle.c_demands.specs.CDemand.{CCall, CLeft, cSteps, Kept, CLent, made, cSaid, cMovesOf, cHanded, CDemand3}
 use Rattle.c_demands.proofs.Calls.{kept-is, asSteps, made-all, lent-all, follow-all}
 
 -- A placing that returned 0: the lent record has a record's lengths, the placing was taken, and its walk was put there.
@@ -63,6 +66,28 @@ c-demand-3 image b a mode cursor bc kind key numbers buf bound numbers′ buf′
       ascends = d .ascends;
       total = rw (f .1, kept .1) (d .total);
     })
+
+-- 02 [13]: what the same calls carry is what is due of the row.
+pub c-carried-due : (image : List ℕ) → ((i : ℕ) → getD image i 0 < 256) → checkNumber (check image) ≡ 0
+    → (mode : StartMode) (cursor : List ℕ) → ((i : ℕ) → getD cursor i 0 < 256) → (kind : ℕ) (key : List ℕ)
+    → (numbers buf bound numbers′ buf′ bound′ : List ℕ) → PutPlaced (place image mode cursor kind key) numbers buf bound 0 numbers′ buf′ bound′
+    → (calls : List CCall) → CLent image calls
+    → cHanded (cSteps numbers′ buf′ bound′ calls) ≡ dueHanded image (made image calls) (rowOf image mode cursor kind key) nothingYet
+c-carried-due image b a mode cursor bc kind key numbers buf bound numbers′ buf′ bound′ put calls l =
+    let p = place image mode cursor kind key in
+    let code = code-is p numbers buf bound numbers′ buf′ bound′ put in
+    let d = demand-3 image b a mode cursor bc kind key code (asSteps image calls) (lent-all image calls l) in
+    let due = carried-due image b a mode cursor bc kind key code (asSteps image calls) (lent-all image calls l) in
+    let kept = place-keeps image mode cursor kind key in
+    let f = follow-all image (p .walk .bound .key) calls (numbersOf (p .walk)) (p .walk .cursor .buf) (kept .0) (rw (kept .1) (d .foreign)) in
+    rw (
+      numbers-are p numbers buf bound numbers′ buf′ bound′ put,
+      buf-is p numbers buf bound numbers′ buf′ bound′ put,
+      bound-is p numbers buf bound numbers′ buf′ bound′ put,
+      f .3,
+      kept .1,
+    )
+    (due ∙ ap (λ (which : List Bool). dueHanded image which (rowOf image mode cursor kind key) nothingYet) (made-all image calls))
 
 -- COROLLARIES. The same of anything that calls left which meet `pb_step`'s contract (`Kept`).
 pub by-contract : (image : List ℕ) (mode : StartMode) (cursor : List ℕ) (kind : ℕ) (key numbers buf bound : List ℕ) (calls : List CCall)

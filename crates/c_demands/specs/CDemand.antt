@@ -1,14 +1,15 @@
 -- Demand 3 as C meets it: a list of calls of `pb_step` on one record, what they say by the numbers that they leave, and what is due. The row,
 -- what is due of it and what can be said are those of demands/specs/Demand.antt.
-use Rattle.base.specs.Kit.{Bool, false, not, _&&_, List, [], _∷_, _⊎_, _≡_, ℕ, _+_, _*_, _≤_, eqb, length, take, getD}
+use Rattle.base.specs.Kit.{Bool, false, not, _&&_, List, [], _∷_, _⊎_, _≡_, ℕ, _+_, _*_, _≤_, eqb, length, take, getD, replicate}
 use Rattle.base.specs.Pick.{pick}
 use Rattle.layering.specs.Ascending.{Ascending}
 use Rattle.layering.specs.Sieve.{rowOf}
 use Rattle.verify.specs.Check.{checkCounts, check}
-use Rattle.record_step.specs.Step.{stepNumber, stepNumbers, stepBuf}
+use Rattle.walk.specs.Walk.{nothingYet}
+use Rattle.record_step.specs.Step.{saidIn, stepNumber, stepNumbers, stepBuf}
 use Rattle.demands.specs.Demand.{Said, handsOut, none, declines, due}
 use Rattle.punchbronze.specs.Interface.{outAfter, StepLeft}
-use Rattle.c_demands.specs.Types.{StartMode}
+use Rattle.c_demands.specs.Types.{StartMode, HandedOut}
 
 -- A CALL of `pb_step`: the bytes that it is lent for the image, and the lent output, whatever that holds.
 pub record CCall : Type 0 where
@@ -52,7 +53,7 @@ CLent image (c ∷ rest) = ((c .bytes ≡ image) ⊎ (length (c .bytes) ≡ leng
 
 -- Which of them step the walk: those over bytes of the image's length, with room for the answer.
 unfoldable pub isMade : List ℕ → CCall → Bool
-isMade image c = eqb (length (c .bytes)) (length image) && eqb (length (c .out)) 4
+isMade image c = eqb (length (c .bytes)) (length image) && eqb (length (c .out)) saidIn
 
 unfoldable pub made : List ℕ → List CCall → List Bool
 made image [] = []
@@ -69,7 +70,7 @@ unfoldable pub cSaid : List CLeft → List Said
 cSaid [] = []
 cSaid (s ∷ rest) = cSaidBy s ∷ cSaid rest
 
--- Its moves: the last number of `out`, where the call is not declined.
+-- Its moves: the fourth number of `out`, where the call is not declined.
 unfoldable pub cMovesBy : CLeft → ℕ
 cMovesBy s = pick (eqb (s .number) 0) (getD (s .out) 3 0) 0
 
@@ -77,12 +78,20 @@ unfoldable pub cMovesOf : List CLeft → ℕ
 cMovesOf [] = 0
 cMovesOf (s ∷ rest) = cMovesBy s + cMovesOf rest
 
--- What each other call leaves: 21, the record as it came, and zeros in an output of four places; one of another length as it came.
+-- What a call carries (02 [13]): the last two numbers of `out`, where the call is not declined.
+unfoldable pub cHandedBy : CLeft → HandedOut
+cHandedBy s = pick (eqb (s .number) 0) (record { depth = getD (s .out) 4 0; count = getD (s .out) 5 0 }) nothingYet
+
+unfoldable pub cHanded : List CLeft → List HandedOut
+cHanded [] = []
+cHanded (s ∷ rest) = cHandedBy s ∷ cHanded rest
+
+-- What each other call leaves: 21, the record as it came, and zeros in an output of six places; one of another length as it came.
 pub record Untouched (numbers buf out : List ℕ) (s : CLeft) : Type 0 where
   pub number : s .number ≡ 21
   pub numbers-stay : s .numbers ≡ numbers
   pub buf-stay : s .buf ≡ buf
-  pub out-left : s .out ≡ pick (eqb (length out) 4) (0 ∷ 0 ∷ 0 ∷ 0 ∷ []) out
+  pub out-left : s .out ≡ pick (eqb (length out) saidIn) (replicate saidIn 0) out
 
 unfoldable pub CForeign : List ℕ → List ℕ → List ℕ → List ℕ → List CCall → Type 0
 CForeign image numbers buf bound [] = Unit {0}

@@ -2,6 +2,7 @@
 pub use Rattle.cursor.specs.declared.range_bound.StartMode.{StartMode}
 pub use Rattle.walk.specs.declared.scan_state.Answer.{Answer}
 pub use Rattle.walk.specs.declared.scan_state.Answer.the-variants.{Key, Nothing, Declined}
+pub use Rattle.walk.specs.declared.scan_state.HandedOut.{HandedOut}
 pub use Rattle.walk.specs.declared.scan_state.Placed.{Placed}
 pub use Rattle.walk.specs.declared.scan_state.Stepped.{Stepped}
 pub use Rattle.walk.specs.declared.scan_state.Walk.{Walk}

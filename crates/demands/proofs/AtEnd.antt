@@ -7,6 +7,7 @@ use Rattle.base.proofs.Choice.{by-test}
 use Rattle.cursor.specs.RangeBound.{atEnd, isLast, boundOf}
 use Rattle.demands.specs.Types.{RangeBound, Tested, StartMode, Ended, Walk, Answer, Key, Nothing, Declined, Stepped}
 use Rattle.layering.specs.Keys.{Pair}
+use Rattle.layering.specs.Depths.{depthOf}
 use Rattle.layering.specs.Ascending.{Ascending}
 use Rattle.layering.proofs.Sieve.{front, front-passes}
 use Rattle.layering.proofs.Bound.{end-is-last}
@@ -16,7 +17,7 @@ use Rattle.verify.specs.Check.{checkNumber, check}
 use Rattle.verify.proofs.Theorem.{accepted-obeys}
 use Rattle.walk.specs.Walk.{numberOf, keysOf, lenOf, valueOf}
 use Rattle.walk.specs.Placing.{freshWalk, place}
-use Rattle.scan.specs.Machine.{Ran, isEnded, scanOf, finished, step}
+use Rattle.scan.specs.Machine.{Ran, isEnded, scanOf, declinedWith, answered, finished, step}
 use Rattle.scan.specs.MovesOn.{movedOn, stepOn}
 use Rattle.scan.proofs.BeginLaws.{step-ended}
 use Rattle.lent.proofs.Same.{step-as}
@@ -42,8 +43,7 @@ unfolding stepOn
 on-none w image e = none-stays (step w image) e
 
 -- and one over bytes of another length
-on-foreign : (w : Walk) (lent : List ℕ) → step w lent ≡ record { answer = Declined 21; moves = 0; walk = w }
-    → stepOn w lent ≡ record { answer = Declined 21; moves = 0; walk = w }
+on-foreign : (w : Walk) (lent : List ℕ) → step w lent ≡ declinedWith 21 w → stepOn w lent ≡ declinedWith 21 w
 unfolding stepOn movedOn keysOf pick
 on-foreign w lent e = rw e
 
@@ -63,11 +63,11 @@ module _ (s : Stepped) (rest : List Stepped) where
 
 -- a step that answers none, and one that is declined
 module _ (w : Walk) where
-  says-none : isNone (saidBy (record { answer = Nothing; moves = 0; walk = w })) ≡ true
+  says-none : isNone (saidBy (answered Nothing 0 w)) ≡ true
   unfolding saidBy numberOf keysOf isNone pick
   says-none = refl
 
-  says-21 : saidBy (record { answer = Declined 21; moves = 0; walk = w }) ≡ declines 21
+  says-21 : saidBy (declinedWith 21 w) ≡ declines 21
   unfolding saidBy numberOf pick
   says-21 = refl
 
@@ -94,11 +94,12 @@ module _ (image : List ℕ) (B : RangeBound) (kind-ok : B .kind ≤ 2) (len-ok :
 
   turned : (w : Walk) (c : Conf) → Walks image B w c → pot c ≤ length image → {r : Ran} → Came image (B .kind) bytes c 0 r → Turn (finished w r)
   unfolding finished saidBy numberOf keysOf lenOf valueOf isNone isEnd movedOn scanOf resumed pick left rest front pot Ascending
-  turned w c h k (out x c′ false n s e m g fit rep key at) = same refl (ap (atEnd (B .kind) bytes) (sym key) ∙ sym at)
-  turned w c h k (out x c′ true n s e m g fit rep key at) =
+  turned w c h k (out x c′ false n s e m g fit deep rep key at) = same refl (ap (atEnd (B .kind) bytes) (sym key) ∙ sym at)
+  turned w c h k (out x c′ true n s e m g fit deep rep key at) =
       let gone = end-is-last (B .kind) bytes x (left (admitted B) c′) (subst Ascending e (h .ascends)) (front-passes (admitted B) (rest c′)) (sym at) in
       parts c′ refl (ap (atEnd (B .kind) bytes) (sym key) ∙ sym at) refl refl
-      (goes-on image B kind-ok len-ok w s (h .same-length) (h .same-bound) fit c′ rep (subst Ascending e (h .ascends) .1))
+      (goes-on image B kind-ok len-ok w s _ (h .same-length) (h .same-bound) fit (fit .deep) c′ rep (subst Ascending e (h .ascends) .1)
+      (deep (depthOf image) (h .known) .1) (omega (arith, h .few, ap length e)))
       refl gone (omega arith)
   turned w c h k (end n s e m g fit) = same refl refl
 
@@ -113,7 +114,7 @@ module _ (image : List ℕ) (B : RangeBound) (kind-ok : B .kind ≤ 2) (len-ok :
       by-step image B kind-ok len-ok w c h k (λ (s : Stepped). 0 < s .moves) (λ e o. absurd (true≢false (sym (ap isEnded e) ∙ f))) (λ e r. go)
     where
       go : {r : Ran} → Came image (B .kind) bytes c 0 r → 0 < finished w r .moves
-      go (out x c′ last n s e m g fit rep key at) = m
+      go (out x c′ last n s e m g fit deep rep key at) = m
       go (end n s e m g fit) = m
 
   -- of a walk that is ended nothing is left
@@ -127,7 +128,7 @@ module _ (image : List ℕ) (B : RangeBound) (kind-ok : B .kind ≤ 2) (len-ok :
 
   -- A STEP over other bytes is declined by both.
   abbrev Foreign21 : Walk → List ℕ → Type 0
-  Foreign21 w lent = step w lent ≡ record { answer = Declined 21; moves = 0; walk = w }
+  Foreign21 w lent = step w lent ≡ declinedWith 21 w
 
   foreign-of : (w : Walk) (c : Conf) → Walks image B w c → (lent : List ℕ) → (length lent ≡ length image → ⊥) → Foreign21 w lent
   foreign-of w c h lent e = other-length w lent (λ d. e (d ∙ h .same-length))
@@ -139,8 +140,8 @@ module _ (image : List ℕ) (B : RangeBound) (kind-ok : B .kind ≤ 2) (len-ok :
   unfolding Lent steps stepsOn said headSaid tailOf
   both-none [] l w v c d h g u z k j = refl
   both-none (call ∷ rest) (inl e, l) w v c d h g u z k j =
-      let q : Paid image B c (step w image) = pays image B kind-ok len-ok w c h k in
-      let p : Paid image B d (step v image) = pays image B kind-ok len-ok v d g j in
+      let q : Paid image B c (w .handed) (step w image) = pays image B kind-ok len-ok w c h k in
+      let p : Paid image B d (v .handed) (step v image) = pays image B kind-ok len-ok v d g j in
       let o : saidBy (step v image) ≡ none = p .head ∙ ap headSaid z in
       let ih = both-none rest l (step w image .walk) (step v image .walk) (q .to) (p .to) (q .walks) (p .walks) (q .tail ∙ ap tailOf u) (p .tail ∙ ap tailOf z)
       (omega (arith, q .cost)) (omega (arith, p .cost)) in
@@ -159,7 +160,7 @@ module _ (image : List ℕ) (B : RangeBound) (kind-ok : B .kind ≤ 2) (len-ok :
   unfolding Lent steps stepsOn said isAny headSaid isNone
   parted [] l w v c d h s g n z k = record { fewer = λ e. absurd (false≢true e); else-same = λ e. refl }
   parted (call ∷ rest) (inl e, l) w v c d h s g n z k =
-      let p : Paid image B d (step v image) = pays image B kind-ok len-ok v d g k in
+      let p : Paid image B d (v .handed) (step v image) = pays image B kind-ok len-ok v d g k in
       let o : saidBy (step v image) ≡ none = p .head ∙ ap headSaid z in
       rw (step-as (call .form) w (call .bytes), e, ← step-ended w image (walk-ok image B kind-ok len-ok w c h) (ap isEnded s), on-none v image o)
       (record {
@@ -193,7 +194,7 @@ module _ (image : List ℕ) (B : RangeBound) (kind-ok : B .kind ≤ 2) (len-ok :
     abbrev s : Stepped
     s = step w image
 
-    q : Paid image B c s
+    q : Paid image B c (w .handed) s
     q = pays image B kind-ok len-ok w c h k
 
     low : pot (q .to) ≤ length image
@@ -249,7 +250,7 @@ module _ (image : List ℕ) (B : RangeBound) (kind-ok : B .kind ≤ 2) (len-ok :
   unfolding Lent steps stepsOn stepOn said isAny isNone isEnd
   stops [] l w c h k = record { answers = refl; fewer = λ e. absurd (false≢true e); else-same = λ e. refl }
   stops (call ∷ rest) (inl e, l) w c h k =
-      let q : Paid image B c (step w image) = pays image B kind-ok len-ok w c h k in
+      let q : Paid image B c (w .handed) (step w image) = pays image B kind-ok len-ok w c h k in
       rw (step-as (call .form) w (call .bytes), e)
       (one-step w c h k rest l (stops rest l (step w image .walk) (q .to) (q .walks) (omega (arith, q .cost))) (turn-of w c h k))
   stops (call ∷ rest) (inr e, l) w c h k =
@@ -259,7 +260,7 @@ module _ (image : List ℕ) (B : RangeBound) (kind-ok : B .kind ≤ 2) (len-ok :
       let j = up-more _ (stepsOn w rest) (ap isNone (says-21 w)) in
       rw (step-as (call .form) w (call .bytes), on-foreign w (call .bytes) f, f)
       (record {
-        answers = ap {B = List Said} (λ t. saidBy (record { answer = Declined 21; moves = 0; walk = w }) ∷ t) (ih .answers);
+        answers = ap {B = List Said} (λ t. saidBy (declinedWith 21 w) ∷ t) (ih .answers);
         fewer = λ t u. omega (arith, i, j, ih .fewer (rw (says-21 w) at t) (rw (says-21 w) at u));
         else-same = λ t. omega (arith, i, j, ih .else-same (rw (says-21 w) at t));
       })

@@ -1,5 +1,5 @@
 -- A fresh walk over an accepted image stands before a row (`begin`), whatever its cursor: what is left of it is what lies
--- past the start, and the potential is no more than the tree weighs.
+-- past the start, each key of it has its depth, and the potential is no more than the tree weighs.
 use Rattle.base.specs.Kit.{_≡_, refl, ap, sym, _∙_, subst, List, [], _++_, append-nil, true, ℕ, suc, _+_, _*_, _-_, _≤_, _<_, arith, ltb, length, getD, replicate, lt-ltb, le-ltb}
 use Rattle.base.specs.Pick.{pick}
 use Rattle.base.proofs.Choice.{pick-ind}
@@ -17,7 +17,8 @@ use Rattle.layering.specs.Sieve.{sieve, past}
 use Rattle.layering.proofs.Row.{Row, stop, keys, weight}
 use Rattle.layering.proofs.Flat.{flatN}
 use Rattle.layering.proofs.Pairs.{obeys-row}
-use Rattle.layering.proofs.Walk.{Stack, bottom, seek, above, climb, pot}
+use Rattle.layering.proofs.Depths.{Known}
+use Rattle.layering.proofs.Walk.{Stack, bottom, seek, above, KnownAbove, KnownAt, climb, pot}
 use Rattle.layering.proofs.Descent.{Past, past-asc, NextHop, routeN, descentN, hopN}
 use Rattle.search.specs.Traversal.{reach}
 use Rattle.moves.specs.declared.context.ScanState.the-variants as loop
@@ -61,6 +62,7 @@ pub record Begun (image : List ℕ) (mode : StartMode) (x : List ℕ) (kind : �
   pub over : Stack
   pub rep : Rep image kind bound s (seek steps pre to over)
   pub left : sieve (past mode x) (keys [] (flatN (treeOf image) stop)) ≡ keys pre to ++ above over
+  pub known : (t : List ℕ → ℕ) → Known t [] (flatN (treeOf image) stop) → KnownAt t (seek steps pre to over)
   pub light : pot (seek steps pre to over) ≤ weight (flatN (treeOf image) stop) + 3
 
 module _ (image : List ℕ) (b : (i : ℕ) → getD image i 0 < 256) (o : Obeys image) (x : List ℕ) (bx : Bytes x)
@@ -68,7 +70,7 @@ module _ (image : List ℕ) (b : (i : ℕ) → getD image i 0 < 256) (o : Obeys 
   -- WITH START
   begin-start : (mode : StartMode) → Wide mode (length x) → length x ≤ 256
       → Begun image mode x kind bound (opening image x (loop.Start mode) 0)
-  unfolding opening padded Rep above climb pot
+  unfolding opening padded Rep above KnownAbove climb pot
   begin-start mode w h =
       let g = begins-all image mode x (replicate (256 - length x) 0) w kind bound 31 (opening image x (loop.Start mode) 0)
       [] x bottom (treeOf image)
@@ -95,6 +97,7 @@ module _ (image : List ℕ) (b : (i : ℕ) → getD image i 0 < 256) (o : Obeys 
         over = g .over;
         rep = g .rep;
         left = sym (append-nil _) ∙ g .left;
+        known = λ t q. g .known t q tt;
         light = omega (arith, g .light);
       }
 
@@ -130,7 +133,7 @@ module _ (image : List ℕ) (b : (i : ℕ) → getD image i 0 < 256) (o : Obeys 
     passed lo h = descentN (treeOf image) (ikeyOf x) lo 0 stop (obeys-row image b o) h
 
     begin-retry : Begun image Above x kind bound (opening image x loop.Retry 0)
-    unfolding Rep Nexts opening arrived row row-at leaf-at k rank above climb pot
+    unfolding Rep Nexts opening arrived row row-at leaf-at k rank above KnownAbove KnownAt climb pot
     begin-retry =
         let s = past-asc (passed (suc (rank x)) (omega arith)) 0 (obeys-row image b o) in
         let z = reached-at (stands image leaf-at (landed .ok) k (padded x) short) in
@@ -148,6 +151,7 @@ module _ (image : List ℕ) (b : (i : ℕ) → getD image i 0 < 256) (o : Obeys 
             then = q .stands;
           };
           left = q .left ∙ sym (append-nil _);
+          known = λ t a. (q .known t a, tt);
           light = omega (arith, q .light);
         }
 

@@ -9,9 +9,9 @@ use Rattle.layering.proofs.Asked.{row-in-order}
 use Rattle.verify.specs.Check.{checkNumber, check}
 use Rattle.verify.specs.Acceptance.{treeCounts}
 use Rattle.verify.proofs.Theorem.{accepted-obeys}
-use Rattle.demands.specs.Types.{StartMode, Walk, Declined}
+use Rattle.demands.specs.Types.{StartMode, Walk}
 use Rattle.walk.specs.Placing.{place}
-use Rattle.scan.specs.Machine.{step}
+use Rattle.scan.specs.Machine.{declinedWith, step}
 use Rattle.demands.specs.Demand.{Call, Lent, Demand3}
 use Rattle.demands.proofs.Steps.{other-length}
 use Rattle.demands.proofs.Whole.{taken, takes, fresh-steps}
@@ -40,7 +40,7 @@ is-taken image a = takes image (accepted-obeys image a .0)
 
 -- A step lent another length changes nothing, whatever the walk.
 pub foreign : (w : Walk) (lent : List ℕ) → (length lent ≡ w .«image_len» → ⊥)
-    → step w lent ≡ record { answer = Declined 21; moves = 0; walk = w }
+    → step w lent ≡ declinedWith 21 w
 foreign = other-length
 
 -- The row ascends strictly in plain byte order.

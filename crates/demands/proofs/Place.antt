@@ -16,6 +16,7 @@ use Rattle.layering.proofs.Part.{slotRank}
 use Rattle.layering.proofs.Sieve.{all-pass, above-yes, above-no}
 use Rattle.layering.proofs.Walk.{bottom}
 use Rattle.layering.proofs.Descent.{Past, here, over-val, over-sub, past-trans, past-weight, past-sieve, NextHop}
+use Rattle.layering.proofs.Depths.{Known, known-behind, known-past}
 use Rattle.walk.specs.Walk.{emptyContext}
 use Rattle.scan.specs.Machine.{Scan}
 use Rattle.demands.proofs.Leaf.{usedIn, rankAt, LeafOk}
@@ -117,6 +118,7 @@ module _ (image : List ℕ) where
     pub to : Row
     pub stands : Standing image s [] bottom to
     pub left : sieve (past Above x) (keys [] r) ≡ keys [] to
+    pub known : (t : List ℕ → ℕ) → Known t [] r → Known t [] to
     pub light : weight to ≤ weight r
 
   module _ (x : List ℕ) (short : length x ≤ 8) (bx : Bytes x) (l i : ℕ) (ok : LeafOk image l)
@@ -160,13 +162,14 @@ module _ (image : List ℕ) where
       left =
           left-there x short bx r to m (suc (rank x)) asc p (omega arith)
           (raise (suc (rank x)) to low a s h (omega arith) g);
+      known = λ t q. known-past t [] p q;
       light = past-weight p;
     }
 
     -- the slot there is the cursor's own
     own-at : (to : Row) (low : ℕ) → At image 0 l i to → Asc low to → NextHop (ikeyOf x) to → Past (suc (rank x)) r to
         → i < usedIn image l → rank x ≡ rankAt image l i → Placed x begun r
-    unfolding opening arrived rank At Asc NextHop rankAt slotRank weight keys
+    unfolding opening arrived rank At Asc NextHop rankAt slotRank weight keys Known
     own-at stop low a s h p b e = absurd (omega (arith, a .0))
     own-at (hop q y to) low a s h p b e = absurd (omega (arith, a .0))
     own-at (sub k q t to) low a s h p b e = absurd (omega (arith, a .0 .layer))
@@ -179,6 +182,7 @@ module _ (image : List ℕ) where
           left-there x short bx r to m (suc (rank k)) asc
           (past-trans p (over-val {k = k} (omega (arith, val-rank image (a .0))) here))
           (omega (arith, val-rank image (a .0))) (s .2);
+      known = λ t q. known-behind t [] k c v to (known-past t [] p q);
       light = omega (arith, past-weight p);
     }
 

@@ -20,7 +20,8 @@ use Rattle.layering.proofs.Flat.{flatN, flatS}
 use Rattle.layering.proofs.Held.{HeldN}
 use Rattle.layering.proofs.Sieve.{sieve-append, all-pass}
 use Rattle.layering.proofs.Descent.{Past, past-weight, past-asc, past-sieve, none-below, NextHop, routeN, descentN, hopN}
-use Rattle.layering.proofs.Walk.{Stack, frame, above, climb}
+use Rattle.layering.proofs.Depths.{Known, known-behind, known-past}
+use Rattle.layering.proofs.Walk.{Stack, frame, seek, above, climb, KnownAbove, KnownAt}
 use Rattle.search.specs.Traversal.{reach}
 use Rattle.search.specs.Helper.{position, slotIn}
 use Rattle.start.specs.Start.{verdict, byVerdict, startFrom, startPosition}
@@ -108,6 +109,7 @@ module _ (mode : StartMode) (X p y : List ℕ) (whole : X ≡ p ++ y) (by : Byte
       pub asc : Asc low to
       pub hops : NextHop (ikeyOf y) to
       pub left : sieve (past mode X) (keys p row) ≡ keys p to
+      pub known : (t : List ℕ → ℕ) → Known t p row → Known t p to
       pub light : weight to ≤ weight row
 
     pub record Entered (row : Row) (j : ℕ) : Type 0 where
@@ -125,6 +127,7 @@ module _ (mode : StartMode) (X p y : List ℕ) (whole : X ≡ p ++ y) (by : Byte
       pub own : ikeyIn image l j ≡ ikeyOf y
       pub left : sieve (past mode X) (keys p row)
           ≡ sieve (past mode X) (keys (p ++ k) (flatN node stop)) ++ keys p behind
+      pub known : (t : List ℕ → ℕ) → Known t p row → Known t (p ++ k) (flatN node stop) × Known t p behind
       pub light : 5 + weight (flatN node stop) + weight behind ≤ weight row
 
     pub data Begins (row : Row) : Started → Type 0 where
@@ -133,8 +136,8 @@ module _ (mode : StartMode) (X p y : List ℕ) (whole : X ≡ p ++ y) (by : Byte
 
     -- one slot more in front, that is passed over
     begins-on : {row row′ : Row} → sieve (past mode X) (keys p row) ≡ sieve (past mode X) (keys p row′)
-        → weight row′ ≤ weight row → {o : Started} → Begins row′ o → Begins row o
-    begins-on e h (stands-at j g) =
+        → ((t : List ℕ → ℕ) → Known t p row → Known t p row′) → weight row′ ≤ weight row → {o : Started} → Begins row′ o → Begins row o
+    begins-on e q h (stands-at j g) =
         stands-at j
         (record {
           to = g .to;
@@ -144,9 +147,10 @@ module _ (mode : StartMode) (X p y : List ℕ) (whole : X ≡ p ++ y) (by : Byte
           asc = g .asc;
           hops = g .hops;
           left = e ∙ g .left;
+          known = λ t a. g .known t (q t a);
           light = omega (arith, g .light);
         })
-    begins-on e h (enters-at j g) =
+    begins-on e q h (enters-at j g) =
         enters-at j
         (record {
           k = g .k;
@@ -162,6 +166,7 @@ module _ (mode : StartMode) (X p y : List ℕ) (whole : X ≡ p ++ y) (by : Byte
           long = g .long;
           own = g .own;
           left = e ∙ g .left;
+          known = λ t a. g .known t (q t a);
           light = omega (arith, g .light);
         })
 
@@ -181,7 +186,7 @@ module _ (mode : StartMode) (X p y : List ℕ) (whole : X ≡ p ++ y) (by : Byte
       pub begins : (s : Slots) {from lo hi i : ℕ} (m low : ℕ) → SoundS image depth from lo hi l i s
           → i + m ≡ usedIn image l → Asc low (flatS s r) → NextHop (ikeyOf y) (flatS s r)
           → Begins (flatS s r) (startFrom mode image l k buf i m)
-      unfolding startFrom byVerdict flatN HeldN At Asc NextHop weight
+      unfolding startFrom byVerdict flatN HeldN At Asc NextHop Known weight
       begins none {i = i} zero low g e a h =
           stands-at i
           (record {
@@ -192,6 +197,7 @@ module _ (mode : StartMode) (X p y : List ℕ) (whole : X ≡ p ++ y) (by : Byte
             asc = a;
             hops = h;
             left = all-behind r low ar a h;
+            known = λ t q. q;
             light = omega arith;
           })
       begins none (suc m) low g e a h = absurd (omega (arith, g .holds))
@@ -208,7 +214,8 @@ module _ (mode : StartMode) (X p y : List ℕ) (whole : X ≡ p ++ y) (by : Byte
 
           go : {v : Verdict} → Judged y (ownBytes f) mode v → {o : Started} → Begins (flatS t r) o
               → Begins (flatS (value f t) r) (byVerdict v i (slotIn image l i) o)
-          go (passes n) ih = begins-on (val-out (ownBytes f) (f .live) (f .value) (flatS t r) n) (omega arith) ih
+          go (passes n) ih =
+              begins-on (val-out (ownBytes f) (f .live) (f .value) (flatS t r) n) (λ u q. known-behind u p (ownBytes f) (f .live) (f .value) (flatS t r) q) (omega arith) ih
           go (stands n w) ih =
               stands-at i
               (record {
@@ -219,6 +226,7 @@ module _ (mode : StartMode) (X p y : List ℕ) (whole : X ≡ p ++ y) (by : Byte
                 asc = a;
                 hops = h;
                 left = val-in (ownBytes f) (f .live) (f .value) (flatS t r) n w (a .2);
+                known = λ u q. q;
                 light = omega arith;
               })
       begins (layer f n t) zero low g e a h = absurd (omega (arith, g .holds .0))
@@ -235,7 +243,7 @@ module _ (mode : StartMode) (X p y : List ℕ) (whole : X ≡ p ++ y) (by : Byte
           go (passes-sub w) ih =
               begins-on
               (sub-out (ikeyBytes (f .ikey)) (f .value) (flatN n stop) (flatS t r) (a .0) (a .1) (a .3)
-              (omega (arith, sub-ikey image (d .0)))) (omega arith) ih
+              (omega (arith, sub-ikey image (d .0)))) (λ u q. q .1) (omega arith) ih
           go (stands-sub w) ih =
               stands-at i
               (record {
@@ -248,6 +256,7 @@ module _ (mode : StartMode) (X p y : List ℕ) (whole : X ≡ p ++ y) (by : Byte
                 left =
                     sub-in (ikeyBytes (f .ikey)) (f .value) (flatN n stop) (flatS t r) low a
                     (omega (arith, sub-ikey image (d .0)));
+                known = λ u q. q;
                 light = omega arith;
               })
           go (enters-sub w x) ih =
@@ -268,6 +277,7 @@ module _ (mode : StartMode) (X p y : List ℕ) (whole : X ≡ p ++ y) (by : Byte
                 left =
                     sub-part (ikeyBytes (f .ikey)) (f .value) (flatN n stop) (flatS t r) (a .4)
                     (long-rank y w (sub-ikey image (d .0) ∙ x));
+                known = λ u q. q;
                 light = omega arith;
               })
 
@@ -359,6 +369,7 @@ module _ (image : List ℕ) (mode : StartMode) (X z : List ℕ) (wide : Wide mod
       pub over : Stack
       pub rep : Nexts image kind bound steps (λ t. Standing image t pre over to) s
       pub left : sieve (past mode X) (keys p row) ++ above st ≡ keys pre to ++ above over
+      pub known : (t : List ℕ → ℕ) → Known t p row → KnownAbove t st → KnownAt t (seek steps pre to over)
       pub light : steps + weight to + climb over ≤ weight row + climb st
 
     module _ (s : Scan) (p y : List ℕ) (st : Stack) (n : Node) (g : Starting s p y st n) where
@@ -411,7 +422,7 @@ module _ (image : List ℕ) (mode : StartMode) (X z : List ℕ) (wide : Wide mod
           → Stood mode X p y (g .whole) (g .bytes) image (s .ctx .depth) leaf-at (routeN x n stop .1) j
           → startPosition mode image leaf-at (s .ctx .cursor) (s .buf) ≡ StartedAt (position j)
           → BegunIn s p st (flatN n stop)
-      unfolding Nexts arrived leaf-at
+      unfolding Nexts arrived leaf-at KnownAt
       stood j f e = record {
         steps = 0;
         pre = p;
@@ -436,6 +447,7 @@ module _ (image : List ℕ) (mode : StartMode) (X z : List ℕ) (wide : Wide mod
             ap (λ (l : List Pair). l ++ above st)
             (past-sieve p (past mode X) (rank y) (no-low mode X p y (g .whole) (g .bytes)) (g .low) passed (g .asc)
             ∙ f .left);
+        known = λ t q a. (f .known t (known-past t p passed q), a);
         light = omega (arith, f .light, past-weight passed);
       }
 
@@ -478,7 +490,7 @@ module _ (image : List ℕ) (mode : StartMode) (X z : List ℕ) (wide : Wide mod
 
           went-in : startPosition mode image leaf-at (s .ctx .cursor) (s .buf) ≡ StartedEnter (slotIn image leaf-at j)
               → BegunIn inside (p ++ f .k) (frame p (f .behind) st) (flatN (f .node) stop) → BegunIn s p st (flatN n stop)
-          unfolding Nexts above climb inside fieldsAt
+          unfolding Nexts above climb KnownAbove KnownAt inside fieldsAt
           went-in e b = record {
             steps = suc (b .steps);
             pre = b .pre;
@@ -496,6 +508,7 @@ module _ (image : List ℕ) (mode : StartMode) (X z : List ℕ) (wide : Wide mod
                 ∙ f .left)
                 ∙ append-assoc (sieve (past mode X) (keys (p ++ f .k) (flatN (f .node) stop))) (keys p (f .behind)) (above st)
                 ∙ b .left;
+            known = λ t q a. let g = f .known t (known-past t p passed q) in b .known t (g .0) (g .1, a);
             light = omega (arith, b .light, f .light, past-weight passed);
           }
 

@@ -1,28 +1,31 @@
 -- Steps of a walk, and every list of them. Proved: a step lent the walk's image says the head of what is left, and one
--- lent another length changes nothing; hence what a list of steps says, and that its moves are no more than the
+-- lent another length changes nothing; hence what a list of steps says and carries, and that its moves are no more than the
 -- potential. And one loop of moves counts as many keys as are left.
-use Rattle.base.specs.Kit.{_≡_, refl, ap, sym, _∙_, subst, List, [], _∷_, Bool, true, false, not, inl, inr, ℕ, _+_, _≤_, arith, length, take, eq-eqb, ne-eqb}
+use Rattle.base.specs.Kit.{_≡_, refl, ap, ap₂, sym, _∙_, subst, List, [], _∷_, Bool, true, false, not, inl, inr, ℕ, _+_, _≤_, arith, length, take, eq-eqb, ne-eqb}
 use Rattle.base.specs.Pick.{pick}
 use Rattle.cursor.specs.RangeBound.{contains}
-use Rattle.demands.specs.Types.{RangeBound, WalkStateFindNext as FindNext, Ended, Walk, Nothing, Declined, Stepped}
+use Rattle.demands.specs.Types.{RangeBound, WalkStateFindNext as FindNext, Ended, HandedOut, Walk, Nothing, Stepped}
+use Rattle.layering.specs.Keys.{Pair}
+use Rattle.layering.specs.Depths.{depthOf}
 use Rattle.layering.specs.Ascending.{Ascending}
 use Rattle.layering.proofs.Sieve.{front, front-passes}
 use Rattle.layering.proofs.Bound.{end-is-last}
-use Rattle.layering.proofs.Walk.{Conf, over, rest, left, pot}
+use Rattle.layering.proofs.Walk.{Conf, over, rest, KnownAt, left, pot}
 use Rattle.moves.specs.CodeMoves.{InRange}
-use Rattle.walk.specs.Walk.{numberOf, keysOf, lenOf, valueOf, walkOk}
+use Rattle.walk.specs.Walk.{numberOf, keysOf, lenOf, valueOf, nothingYet, oneMore, walkOk}
 use Rattle.walk.proofs.NumberLaws.{fits-walk}
-use Rattle.scan.specs.Machine.{Scan, Ran, run, isEnded, ctxOf, scanOf, walkOf, finished, advance, step}
+use Rattle.scan.specs.Machine.{Scan, Ran, run, isEnded, ctxOf, scanOf, walkOf, declinedWith, answered, finished, advance, step}
 use Rattle.scan.specs.CodeLoop.{runBy, allBy, keysAhead, keysLeft}
 use Rattle.lent.proofs.Same.{step-as}
 use Rattle.demands.specs.Demand.{Call, steps, Lent, Said, handsOut, declines, saidBy, said, movesOf, own, headSaid, tailOf, due, Foreign}
+use Rattle.demands.specs.HandedOut.{handedBy, headHanded, dueHanded}
 use Rattle.demands.proofs.Relation.{resumed, Rep}
 use Rattle.demands.proofs.Run.{Came, out, end, comes}
 use Rattle.demands.proofs.Tally.{counts}
 
 -- ANOTHER LENGTH is declined, and the walk is as it came.
 pub other-length : (w : Walk) (lent : List ℕ) → (length lent ≡ w .«image_len» → ⊥)
-    → step w lent ≡ record { answer = Declined 21; moves = 0; walk = w }
+    → step w lent ≡ declinedWith 21 w
 unfolding step walkOk pick
 other-length w lent h = rw (ne-eqb (w .«image_len») (length lent) (λ e. h (sym e)))
 
@@ -43,14 +46,19 @@ module _ (image : List ℕ) (B : RangeBound) where
     pub fit : InRange (w .depth) (ctxOf w)
     pub stage : Stage w c
     pub ascends : Ascending (left (admitted B) c)
+    pub known : KnownAt (depthOf image) c
+    pub few : w .handed .count + length (left (admitted B) c) ≤ length image
+    pub last-fits : w .handed .depth ≤ 31
 
-  -- What a step of it comes to: the head of what was left is said and its tail is left, and the potential pays for the
-  -- moves.
-  pub record Paid (c : Conf) (t : Stepped) : Type 0 where
+  -- What a step of it comes to, h handed out before: the head of what was left is said and carried, its tail is left, and the potential pays for
+  -- the moves.
+  pub record Paid (c : Conf) (h : HandedOut) (t : Stepped) : Type 0 where
     pub to : Conf
     pub walks : Walks (t .walk) to
     pub head : saidBy t ≡ headSaid (left (admitted B) c)
     pub tail : left (admitted B) to ≡ tailOf (left (admitted B) c)
+    pub carries : t .handed ≡ headHanded image (left (admitted B) c) h
+    pub keeps : t .walk .handed ≡ t .handed
     pub cost : t .moves + pot to ≤ pot c
 
   module _ (kind-ok : B .kind ≤ 2) (len-ok : B .len ≤ 256) where
@@ -65,61 +73,79 @@ module _ (image : List ℕ) (B : RangeBound) where
           position-fits = h .fit .position;
           kind-fits = subst (λ (z : RangeBound). z .kind ≤ 2) (sym (h .same-bound)) kind-ok;
           bound-fits = subst (λ (z : RangeBound). z .len ≤ 256) (sym (h .same-bound)) len-ok;
+          last-fits = h .last-fits;
+          count-fits = omega (arith, h .few);
         })
 
-    -- the walk after a run: it goes on behind a key, or is ended
-    module _ (w : Walk) (s : Scan) (a : w .«image_len» ≡ length image) (b : w .bound ≡ B) (fit : InRange (s .ctx .depth) (s .ctx)) where
-      pub goes-on : (c : Conf) → Rep image (B .kind) (take (B .len) (B .key)) (resumed s) c → Ascending (left (admitted B) c) → Walks (walkOf w FindNext s) c
+    -- the walk after a run, with h handed out: it goes on behind a key, or is ended
+    module _ (w : Walk) (s : Scan) (h : HandedOut) (a : w .«image_len» ≡ length image) (b : w .bound ≡ B) (fit : InRange (s .ctx .depth) (s .ctx)) (deep : h .depth ≤ 31) where
+      pub goes-on : (c : Conf) → Rep image (B .kind) (take (B .len) (B .key)) (resumed s) c → Ascending (left (admitted B) c) → KnownAt (depthOf image) c
+          → h .count + length (left (admitted B) c) ≤ length image → Walks (walkOf w FindNext h s) c
       unfolding scanOf resumed
-      goes-on c rep asc = record {
+      goes-on c rep asc known few = record {
         same-length = a;
         same-bound = b;
         fit = record { place = fit .place; deep = fit .deep; within = fit .within; position = fit .position };
         stage = going refl rep;
         ascends = asc;
+        known = known;
+        few = few;
+        last-fits = deep;
       }
 
-      is-over : Walks (walkOf w Ended s) over
-      unfolding left rest front Ascending
-      is-over = record {
+      is-over : h .count ≤ length image → Walks (walkOf w Ended h s) over
+      unfolding left rest front Ascending KnownAt
+      is-over few = record {
         same-length = a;
         same-bound = b;
         fit = record { place = fit .place; deep = fit .deep; within = fit .within; position = fit .position };
         stage = ended refl;
         ascends = tt;
+        known = tt;
+        few = omega arith;
+        last-fits = deep;
       }
 
     -- a run is over: with a key, which at the included end is the last that is left; or with none
-    finishes : (w : Walk) (c : Conf) → w .«image_len» ≡ length image → w .bound ≡ B → Ascending (left (admitted B) c) → {r : Ran}
-        → Came image (B .kind) (take (B .len) (B .key)) c 0 r → Paid c (finished w r)
-    unfolding finished saidBy numberOf keysOf lenOf valueOf pick headSaid tailOf left rest front pot Ascending
-    finishes w c a b asc (out x c′ false n s e m h fit rep key at) = record {
-      to = c′;
-      walks = goes-on w s a b fit c′ rep (subst Ascending e asc .1);
-      head = ap (λ (t : List ℕ). handsOut (record { key = t; value = x .value })) (sym key) ∙ ap headSaid (sym e);
-      tail = ap tailOf (sym e);
-      cost = omega arith;
-    }
-    finishes w c a b asc (out x c′ true n s e m h fit rep key at) = record {
+    finishes : (w : Walk) (c : Conf) → Walks w c → {r : Ran} → Came image (B .kind) (take (B .len) (B .key)) c 0 r → Paid c (w .handed) (finished w r)
+    unfolding finished saidBy numberOf keysOf lenOf valueOf pick headSaid headHanded tailOf left rest front pot Ascending
+    finishes w c v (out x c′ false n s e m h fit deep rep key at) =
+        let d = deep (depthOf image) (v .known) in
+        record {
+          to = c′;
+          walks = goes-on w s _ (v .same-length) (v .same-bound) fit (fit .deep) c′ rep (subst Ascending e (v .ascends) .1) (d .1) (omega (arith, v .few, ap length e));
+          head = ap (λ (t : List ℕ). handsOut (record { key = t; value = x .value })) (sym key) ∙ ap headSaid (sym e);
+          tail = ap tailOf (sym e);
+          carries = ap (oneMore (w .handed)) (sym (d .0)) ∙ ap (λ (l : List Pair). headHanded image l (w .handed)) (sym e);
+          keeps = refl;
+          cost = omega arith;
+        }
+    finishes w c v (out x c′ true n s e m h fit deep rep key at) =
+        let d = deep (depthOf image) (v .known) in
+        record {
+          to = over;
+          walks = is-over w s _ (v .same-length) (v .same-bound) fit (fit .deep) (omega (arith, v .few, ap length e));
+          head = ap (λ (t : List ℕ). handsOut (record { key = t; value = x .value })) (sym key) ∙ ap headSaid (sym e);
+          tail = sym (end-is-last (B .kind) (take (B .len) (B .key)) x (left (admitted B) c′) (subst Ascending e (v .ascends)) (front-passes (admitted B) (rest c′)) (sym at)) ∙ ap tailOf (sym e);
+          carries = ap (oneMore (w .handed)) (sym (d .0)) ∙ ap (λ (l : List Pair). headHanded image l (w .handed)) (sym e);
+          keeps = refl;
+          cost = omega arith;
+        }
+    finishes w c v (end n s e m h fit) = record {
       to = over;
-      walks = is-over w s a b fit;
-      head = ap (λ (t : List ℕ). handsOut (record { key = t; value = x .value })) (sym key) ∙ ap headSaid (sym e);
-      tail = sym (end-is-last (B .kind) (take (B .len) (B .key)) x (left (admitted B) c′) (subst Ascending e asc) (front-passes (admitted B) (rest c′)) (sym at)) ∙ ap tailOf (sym e);
-      cost = omega arith;
-    }
-    finishes w c a b asc (end n s e m h fit) = record {
-      to = over;
-      walks = is-over w s a b fit;
+      walks = is-over w s _ (v .same-length) (v .same-bound) fit (v .last-fits) (omega (arith, v .few));
       head = ap headSaid (sym e);
       tail = ap tailOf (sym e);
+      carries = ap (λ (l : List Pair). headHanded image l (w .handed)) (sym e);
+      keeps = refl;
       cost = omega arith;
     }
 
     -- A STEP is none where the walk is ended, and else what its run comes to.
     module _ (w : Walk) (c : Conf) (h : Walks w c) (k : pot c ≤ length image) (P : Stepped → Type 0)
-        (none : w .state ≡ Ended → c ≡ over → P (record { answer = Nothing; moves = 0; walk = w }))
+        (none : w .state ≡ Ended → c ≡ over → P (answered Nothing 0 w))
         (runs : isEnded (w .state) ≡ false → (r : Ran) → Came image (B .kind) (take (B .len) (B .key)) c 0 r → P (finished w r)) where
-      in-stage : (d : Conf) → c ≡ d → Stage w d → P (pick (isEnded (w .state)) (record { answer = Nothing; moves = 0; walk = w }) (advance w image))
+      in-stage : (d : Conf) → c ≡ d → Stage w d → P (pick (isEnded (w .state)) (answered Nothing 0 w) (advance w image))
       unfolding advance pick
       in-stage d q (ended e) = rw (ap isEnded e) (none e q)
       in-stage d q (going e rep) =
@@ -131,18 +157,29 @@ module _ (image : List ℕ) (B : RangeBound) where
       unfolding step pick
       by-step = rw (walk-ok w c h) (in-stage c refl (h .stage))
 
-    pub pays : (w : Walk) (c : Conf) → Walks w c → pot c ≤ length image → Paid c (step w image)
-    unfolding saidBy numberOf keysOf headSaid tailOf left rest front pot pick Ascending
+    pub pays : (w : Walk) (c : Conf) → Walks w c → pot c ≤ length image → Paid c (w .handed) (step w image)
+    unfolding saidBy numberOf keysOf headSaid headHanded tailOf left rest front pot pick Ascending KnownAt
     pays w c h k =
-        by-step w c h k (Paid c)
+        by-step w c h k (Paid c (w .handed))
         (λ e o. rw o (record {
           to = over;
-          walks = record { same-length = h .same-length; same-bound = h .same-bound; fit = h .fit; stage = ended e; ascends = tt };
+          walks = record {
+            same-length = h .same-length;
+            same-bound = h .same-bound;
+            fit = h .fit;
+            stage = ended e;
+            ascends = tt;
+            known = tt;
+            few = omega (arith, h .few);
+            last-fits = h .last-fits;
+          };
           head = refl;
           tail = refl;
+          carries = refl;
+          keeps = refl;
           cost = omega arith;
         }))
-        (λ e r. finishes w c (h .same-length) (h .same-bound) (h .ascends))
+        (λ e r. finishes w c h)
 
     -- ALL MOVES IN ONE LOOP: as many keys as are left
     keys-in : (w : Walk) (c : Conf) → w .bound ≡ B → Ascending (left (admitted B) c) → pot c ≤ length image → Stage w c
@@ -165,13 +202,18 @@ module _ (image : List ℕ) (B : RangeBound) where
     pub all-steps : (calls : List Call) → Lent image calls → (w : Walk) (c : Conf) → Walks w c
         → pot c ≤ length image
         → (said (steps w calls) ≡ due (own image calls) (left (admitted B) c)) × Foreign image w calls × (movesOf (steps w calls) ≤ pot c)
-    unfolding Lent steps said movesOf own due Foreign numberOf pick saidBy
-    all-steps [] l w c h k = (refl, tt, omega arith)
+        × (handedBy (steps w calls) ≡ dueHanded image (own image calls) (left (admitted B) c) (w .handed))
+    unfolding Lent steps said movesOf own due Foreign numberOf pick saidBy handedBy dueHanded
+    all-steps [] l w c h k = (refl, tt, omega arith, refl)
     all-steps (call ∷ rest) (inl e, l) w c h k =
-        let q : Paid c (step w image) = pays w c h k in
+        let q : Paid c (w .handed) (step w image) = pays w c h k in
         let ih = all-steps rest l (step w image .walk) (q .to) (q .walks) (omega (arith, q .cost)) in
-        rw (step-as (call .form) w (call .bytes), e, eq-eqb (length image) (length image) refl)
-        (cc (q .head, q .tail, ih .0), (λ f. absurd (f refl), ih .1), omega (arith, q .cost, ih .2))
+        rw (step-as (call .form) w (call .bytes), e, eq-eqb (length image) (length image) refl) (
+          cc (q .head, q .tail, ih .0),
+          (λ f. absurd (f refl), ih .1),
+          omega (arith, q .cost, ih .2),
+          ap₂ {C = List HandedOut} (λ h t. h ∷ t) (q .carries) (ih .3 ∙ ap₂ (dueHanded image (own image rest)) (q .tail) (q .keeps ∙ q .carries)),
+        )
     all-steps (call ∷ rest) (inr e, l) w c h k =
         let ih = all-steps rest l w c h k in
         rw (
@@ -179,4 +221,4 @@ module _ (image : List ℕ) (B : RangeBound) where
           other-length w (call .bytes) (λ d. e (d ∙ h .same-length)),
           ne-eqb (length (call .bytes)) (length image) e,
         )
-        (ap {B = List Said} (λ t. declines 21 ∷ t) (ih .0), (λ f. (refl, refl, refl), ih .1), omega (arith, ih .2))
+        (ap {B = List Said} (λ t. declines 21 ∷ t) (ih .0), (λ f. (refl, refl, refl), ih .1), omega (arith, ih .2), ap {B = List HandedOut} (λ t. nothingYet ∷ t) (ih .3))

@@ -33,10 +33,10 @@ module _ (image : List ℕ) (kind : ℕ) (bound : List ℕ) where
           → afterBy true (v .outcome) (counted (v .outcome) keys) (moves + 1) (v .scan)
           (runBy true image kind bound n (counted (v .outcome) keys) (moves + 1) (v .scan)) .keys
           ≡ keys + length (left (contains kind bound) c)
-      go (goes-on {s = t} {c = d} r) (quiet e w) ih = ih keys t d r (subst Ascending e a) (omega arith) ∙ omega (arith, ap length e)
-      go (gives {s = t} {c = d} x false fit same r key at) (emits y e w) ih =
+      go (goes-on {s = t} {c = d} r) (quiet e w q) ih = ih keys t d r (subst Ascending e a) (omega arith) ∙ omega (arith, ap length e)
+      go (gives {s = t} {c = d} x false fit pre same r key at) (emits y e w q) ih =
           ih (keys + 1) t d (subst (λ (z : Scan). Rep image kind bound z d) same r) (subst Ascending e a .1) (omega arith)
           ∙ omega (arith, ap length e)
-      go (gives {s = t} {c = d} x true fit same r key at) (emits y e w) ih =
+      go (gives {s = t} {c = d} x true fit pre same r key at) (emits y e w q) ih =
           omega (arith, ap length e, ap length (end-is-last kind bound x (left (contains kind bound) d) (subst Ascending e a) (front-passes (contains kind bound) (rest d)) (sym at)))
-      go (ends {s = t} fit) (quiet e w) ih = omega (arith, ap length e)
+      go (ends {s = t} fit) (quiet e w q) ih = omega (arith, ap length e)

@@ -13,22 +13,27 @@ use Rattle.cursor.specs.CursorKey.{fromSlice}
 use Rattle.cursor.specs.RangeBound.{isWithin, tested, contains, boundOf}
 use Rattle.demands.specs.Types.{RangeBound, Tested, StartMode, Above, From, WalkState, Placed}
 use Rattle.layering.specs.Tree.{treeOf}
-use Rattle.layering.specs.Keys.{livePairs, leavesN, valuesN, layersN}
+use Rattle.layering.specs.Keys.{Pair, livePairs, leavesN, valuesN, layersN}
+use Rattle.layering.specs.Depths.{depthOf}
 use Rattle.layering.specs.Accepted.{Obeys}
 use Rattle.layering.specs.Ascending.{Ascending}
 use Rattle.layering.specs.Sieve.{sieve, past, rowOf}
 use Rattle.layering.proofs.Row.{stop, weight}
 use Rattle.layering.proofs.Flat.{weighsN}
 use Rattle.layering.proofs.Size.{moves-fit}
-use Rattle.layering.proofs.Pairs.{row-pairs}
+use Rattle.layering.proofs.Pairs.{row-pairs, pairs-ascend}
+use Rattle.layering.proofs.Depths.{row-known}
+use Rattle.layering.proofs.Few.{row-fits}
 use Rattle.layering.proofs.Sieve.{front, front-sieve}
 use Rattle.layering.proofs.Asked.{past-ascends, row-in-order}
 use Rattle.layering.proofs.Bound.{contains-closed}
 use Rattle.layering.proofs.Walk.{Conf, seek, rest, left, pot}
+use Rattle.walk.specs.Walk.{nothingYet}
 use Rattle.walk.specs.Placing.{shortState, startState, placeFault, freshWalk, place}
 use Rattle.scan.specs.Machine.{isEnded, scanOf}
 use Rattle.scan.specs.CodeLoop.{keysLeft}
 use Rattle.demands.specs.Demand.{Call, steps, Lent, said, movesOf, own, due, Foreign}
+use Rattle.demands.specs.HandedOut.{handedBy, dueHanded}
 use Rattle.demands.proofs.Begin.{Begun, begin-at}
 use Rattle.demands.proofs.Steps.{admitted, Walks, going, all-steps, keys-left}
 
@@ -156,6 +161,9 @@ module _ (image : List ℕ) (b : (i : ℕ) → getD image i 0 < 256) (o : Obeys 
       fit = record { place = refl; deep = omega arith; within = omega (arith, lim .cursor-fits); position = omega arith };
       stage = going (not-ended mode (length cursor)) (begun .rep);
       ascends = subst Ascending (sym left-row) (row-in-order image b o mode cursor kind bound);
+      known = begun .known (depthOf image) (row-known image (pairs-ascend image b o));
+      few = omega (arith, ap length left-row, row-fits image o mode cursor kind bound);
+      last-fits = omega arith;
     }
 
     -- its potential
@@ -169,12 +177,15 @@ module _ (image : List ℕ) (b : (i : ℕ) → getD image i 0 < 256) (o : Obeys 
         ≡ due (own image calls) (rowOf image mode cursor kind bound))
         × Foreign image (freshWalk image mode cursor kind bound) calls
         × (movesOf (steps (freshWalk image mode cursor kind bound) calls) ≤ limit image)
+        × (handedBy (steps (freshWalk image mode cursor kind bound) calls)
+        ≡ dueHanded image (own image calls) (rowOf image mode cursor kind bound) nothingYet)
+    unfolding freshWalk
     fresh-steps calls l =
         let s =
         all-steps image (boundOf kind bound) (bound-kind kind bound (lim .kinds))
         (bound-length kind bound (lim .fits)) calls l (freshWalk image mode cursor kind bound)
         stage walks (omega (arith, few-moves, moves-fit image o)) in
-        (s .0 ∙ ap (due (own image calls)) left-row, s .1, omega (arith, s .2, few-moves))
+        (s .0 ∙ ap (due (own image calls)) left-row, s .1, omega (arith, s .2, few-moves), s .3 ∙ ap (λ (l : List Pair). dueHanded image (own image calls) l nothingYet) left-row)
 
     -- ALL ITS MOVES IN ONE LOOP: as many keys as the row has
     pub fresh-keys : keysLeft (freshWalk image mode cursor kind bound) image

@@ -1,3 +1,4 @@
 pub mod Types
 pub mod Demand
 pub mod AtEnd
+pub mod HandedOut

@@ -19,6 +19,7 @@ pub use Rattle.node.specs.declared.permuter.Position.{Position}
 pub use Rattle.node.specs.declared.permuter.Slot.{Slot}
 pub use Rattle.walk.specs.declared.scan_state.Answer.{Answer}
 pub use Rattle.walk.specs.declared.scan_state.Answer.the-variants.{Declined, Key, Nothing}
+pub use Rattle.walk.specs.declared.scan_state.HandedOut.{HandedOut}
 pub use Rattle.walk.specs.declared.scan_state.LayerContext.{LayerContext}
 pub use Rattle.walk.specs.declared.scan_state.Placed.{Placed}
 pub use Rattle.walk.specs.declared.scan_state.Stepped.{Stepped}

@@ -11,5 +11,6 @@ pub mod Asked
 pub mod Lives
 pub mod Few
 pub mod Bound
-pub mod Walk
 pub mod Descent
+pub mod Depths
+pub mod Walk

@@ -3,3 +3,4 @@ pub mod Keys
 pub mod Accepted
 pub mod Ascending
 pub mod Sieve
+pub mod Depths

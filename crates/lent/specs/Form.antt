@@ -5,13 +5,13 @@ use Rattle.walk.specs.declared.scan_state.Walk.{Walk}
 use Rattle.walk.specs.declared.scan_state.Stepped.{Stepped}
 use Rattle.lent.specs.declared.StepAnswer.{StepAnswer}
 
--- "same answer": a step's answer and moves, without the walk.
+-- "same answer": a step's answer, its moves and what its walk has handed out, without the walk.
 abbrev pub answerOf : Stepped → StepAnswer
-answerOf r = record { answer = r .answer; moves = r .moves }
+answerOf r = record { answer = r .answer; moves = r .moves; handed = r .handed }
 
 -- an answer put together with a walk
 abbrev pub steppedOf : StepAnswer → Walk → Stepped
-steppedOf r w = record { answer = r .answer; moves = r .moves; walk = w }
+steppedOf r w = record { answer = r .answer; moves = r .moves; handed = r .handed; walk = w }
 
 pub data Form : Type 0 where
   byValue : Form

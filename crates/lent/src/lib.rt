@@ -3,16 +3,18 @@
 // `step_lent` and `step_over` take anything and have no `requires`. A function that the borrow checker covers cannot lend a
 // struct, so covered callers and programs reach the lent form through `step_over`.
 use walk::scan_state::Answer;
+use walk::scan_state::HandedOut;
 use walk::scan_state::Stepped;
 use walk::scan_state::Walk;
 ghost use Rattle.base.specs.Kit.{_≡_};
 ghost use Rattle.scan.specs.Machine.{step};
 ghost use Rattle.lent.specs.Form.{answerOf};
 
-// A step's answer and its moves, without the walk.
+// A step's answer, its moves and what its walk has handed out, without the walk.
 pub struct StepAnswer {
     pub answer: Answer,
     pub moves: usize,
+    pub handed: HandedOut,
 }
 
 // One key further, on a walk that is lent. Declined with 21, 22 or 23, and then the walk is left as it came.
@@ -24,6 +26,7 @@ pub fn step_lent(walk: &mut Walk, image: &[u8]) -> StepAnswer
     StepAnswer {
         answer: s.answer,
         moves: s.moves,
+        handed: s.handed,
     }
 }
 
@@ -36,6 +39,7 @@ pub fn step_over(walk: Walk, image: &[u8]) -> Stepped
     Stepped {
         answer: a.answer,
         moves: a.moves,
+        handed: a.handed,
         walk: w,
     }
 }

@@ -1,9 +1,9 @@
 -- What is left in lent output: the check's counts and the tally's count, once they are put there; and what `pb_step` leaves, from the step
 -- of the record.
-use Rattle.base.specs.Kit.{_≡_, refl, sym, _∙_, List, [], _∷_, ℕ, arith, eqb, length, eqb-true, eq-eqb, ne-eqb}
+use Rattle.base.specs.Kit.{_≡_, refl, sym, _∙_, List, [], _∷_, ℕ, arith, eqb, length, replicate, eqb-true, eq-eqb, ne-eqb}
 use Rattle.base.specs.Pick.{pick}
 use Rattle.base.proofs.Choice.{by-test}
-use Rattle.record_step.specs.Step.{stepNumber, left}
+use Rattle.record_step.specs.Step.{saidIn, stepNumber, left}
 use Rattle.record_step.specs.CodeStep.{stepOut, StepMade}
 use Rattle.survey.specs.Tally.{tallyCount}
 use Rattle.punchbronze.specs.Types.{Checked, Tallied}
@@ -26,9 +26,9 @@ count-put t s old after e h = put-due 1 _ s old after e refl h
 
 -- THE STEP
 module _ (n b k image out : List ℕ) where
-  has-room : stepNumber n b k image out ≡ 0 → length out ≡ 4
+  has-room : stepNumber n b k image out ≡ 0 → length out ≡ saidIn
   unfolding stepNumber pick
-  has-room e = by-test (eqb (length out) 4) (eqb-true _ _) (λ f. absurd (let z : _≡_ {A = ℕ} 21 0 = rw f at e in omega arith))
+  has-room e = by-test (eqb (length out) saidIn) (eqb-true _ _) (λ f. absurd (let z : _≡_ {A = ℕ} 21 0 = rw f at e in omega arith))
 
   module _ (r : ℕ) (n′ b′ mid : List ℕ) (made : StepMade n b k image out r n′ b′ mid) where
     pub says : r ≡ 0 → StepLeft n b k image out 0 n′ b′ mid
@@ -47,7 +47,7 @@ module _ (n b k image out : List ℕ) where
     unfolding stepOut left pick
     kept h = rw (← made .number, ne-eqb r 0 h) at (made .out-left)
 
-    pub declines : (r ≡ 0 → ⊥) → (out′ : List ℕ) → out′ ≡ pick (eqb (length mid) 4) (0 ∷ 0 ∷ 0 ∷ 0 ∷ []) mid
+    pub declines : (r ≡ 0 → ⊥) → (out′ : List ℕ) → out′ ≡ pick (eqb (length mid) saidIn) (replicate saidIn 0) mid
         → StepLeft n b k image out r n′ b′ out′
     unfolding outAfter saidNumbers pick
     declines h out′ e = record {

@@ -4,7 +4,7 @@ use Rattle.base.specs.Pick.{pick}
 use Rattle.base.proofs.Choice.{pick-ind}
 use Rattle.key.specs.Part.{part}
 use Rattle.node.specs.Layout.{InSlot}
-use Rattle.record_step.specs.Types.{Slot, CursorPlace, At, Out, Past, Walk, WalkState, FindNext, Ended, Key, Nothing}
+use Rattle.record_step.specs.Types.{Slot, CursorPlace, At, Out, Past, HandedOut, Walk, WalkState, FindNext, Ended, Key, Nothing}
 use Rattle.cursor.specs.CursorKey.{withIkey, withLength}
 use Rattle.search.specs.Traversal.{leafThere}
 use Rattle.moves.specs.Moves.{onward, isStorable, keyPlace, keyBuf}
@@ -13,13 +13,15 @@ use Rattle.moves.specs.CodeFastPath.{fastSlot, nextKey}
 use Rattle.search.proofs.Laws.{leaf-there}
 use Rattle.moves.proofs.StoredKey.{key-fits}
 use Rattle.moves.proofs.FastLaws.{fast-facts, next-place}
-use Rattle.walk.specs.Walk.{walkOk, numberOf, answerNumbers}
+use Rattle.walk.specs.Walk.{oneMore, walkOk, numberOf, answerNumbers}
 use Rattle.scan.specs.Machine.{isEnded, ctxOf, walkOf, afterKey, step}
 use Rattle.scan.specs.CodeLoop.{goneNumber}
 use Rattle.walk.proofs.NumberLaws.{walk-fits}
 use Rattle.scan.proofs.BeginLaws.{in-range, step-advances}
 use Rattle.scan.proofs.StepLaws as step
-use Rattle.walk_record.specs.Record.{leafAt, positionAt, offsetAt, kindAt, boundLenAt, stateAt, stateNumber, stateOf, numbersOf, readWalk, isRecord}
+use Rattle.walk_record.specs.Record.{leafAt, positionAt, offsetAt, depthAt, kindAt, boundLenAt, stateAt, countAt, stateNumber, stateOf, numbersOf, readWalk, isRecord}
+use Rattle.walk_record.specs.CodeLaid.{readHanded}
+use Rattle.record_step.specs.Step.{saidIn}
 use Rattle.record_step.specs.CodeInPlace.{numbersOk, placeOf, keyNumbers}
 use Rattle.record_step.specs.CodeStep.{StepMade}
 use Rattle.walk_record.proofs.Told.{Lengths, record-told}
@@ -34,10 +36,10 @@ gone-not-zero : (n : ℕ) → goneNumber n ≡ 0 → ⊥
 gone-not-zero n = pick-ind (λ m. m ≡ 0 → ⊥) (eqb n 0) (λ t z. omega arith) (λ t z. omega arith)
 
 -- a key in a walk's numbers is the key in the walk
-put-in : (w : Walk) (k : CursorPlace) (b : List ℕ) (state : WalkState) → k .offset ≡ w .cursor .offset
-    → keyNumbers (numbersOf w) k state ≡ numbersOf (walkOf w state (record { ctx = onward (ctxOf w) k (k .ikey); buf = b; stack = w .stack }))
+put-in : (w : Walk) (k : CursorPlace) (b : List ℕ) (state : WalkState) (handed : HandedOut) → k .offset ≡ w .cursor .offset
+    → keyNumbers (numbersOf w) k state handed ≡ numbersOf (walkOf w state handed (record { ctx = onward (ctxOf w) k (k .ikey); buf = b; stack = w .stack }))
 unfolding keyNumbers numbersOf onward
-put-in w k b state e = rw e
+put-in w k b state handed e = rw e
 
 -- What the code asks of a record whose walk's next slot is fast.
 pub record Steppable (n b k image : List ℕ) (slot : Slot) : Type 0 where
@@ -48,6 +50,7 @@ pub record Steppable (n b k image : List ℕ) (slot : Slot) : Type 0 where
   pub position-fits : getD n positionAt 0 ≤ 15
   pub kind-fits : getD n kindAt 0 ≤ 2
   pub bound-fits : getD n boundLenAt 0 ≤ 256
+  pub count-fits : getD n countAt 0 ≤ length image
 
 -- A RECORD WHOSE WALK HAS HANDED OUT A KEY, and whose numbers are in range.
 module _ (n b k image : List ℕ) (is : isRecord n b k ≡ true) (ok : numbersOk n (length image) ≡ true) (next : getD n stateAt 0 ≡ stateNumber FindNext) where
@@ -83,17 +86,18 @@ module _ (n b k image : List ℕ) (is : isRecord n b k ≡ true) (ok : numbersOk
           position-fits = o .position-fits;
           kind-fits = o .kind-fits;
           bound-fits = o .bound-fits;
+          count-fits = o .count-fits;
         }
 
     pub key-fits-in : keyPlace image (getD n leafAt 0) slot (placeOf n) .offset + keyPlace image (getD n leafAt 0) slot (placeOf n) .len ≤ 256
     key-fits-in = key-fits image _ slot (placeOf n) offset-low (ready .storable)
 
-  module _ (out : List ℕ) (four : length out ≡ 4) where
+  module _ (out : List ℕ) (said-fits : length out ≡ saidIn) where
     -- its leaf is not there
     pub leaf-gone : leafThere image (getD n leafAt 0) ≡ false → (r : ℕ) → r ≡ goneNumber (length image) → StepMade n b k image out r n b out
     unfolding numberOf readWalk
     leaf-gone e r f =
-        declined n b k image out four is w refl _ (step.gone w image walk-next e r f ∙ step-advances w image walk-ok (ap isEnded walk-next)) r refl
+        declined n b k image out said-fits is w refl _ (step.gone w image walk-next e r f ∙ step-advances w image walk-ok (ap isEnded walk-next)) r refl
         (λ z. gone-not-zero (length image) (sym f ∙ z))
 
     -- its next slot is fast: c and buf are cursor and buffer with the key
@@ -104,23 +108,25 @@ module _ (n b k image : List ℕ) (is : isRecord n b k ≡ true) (ok : numbersOk
       unfolding keyPlace withIkey withLength readWalk
       offset-is f = ap (λ (x : CursorPlace). x .offset) f
 
-      written : (state : WalkState) → c .offset ≡ w .cursor .offset
-          → keyNumbers n c state ≡ numbersOf (walkOf w state (record { ctx = onward (ctxOf w) c (c .ikey); buf = buf; stack = w .stack }))
-      written state f = sym (ap (λ (l : List ℕ). keyNumbers l c state) (walk-inverse n b k is .0)) ∙ put-in w c buf state f
+      written : (state : WalkState) (handed : HandedOut) → c .offset ≡ w .cursor .offset
+          → keyNumbers n c state handed ≡ numbersOf (walkOf w state handed (record { ctx = onward (ctxOf w) c (c .ikey); buf = buf; stack = w .stack }))
+      written state handed f = sym (ap (λ (l : List ℕ). keyNumbers l c state handed) (walk-inverse n b k is .0)) ∙ put-in w c buf state handed f
 
       pub key-out : (value : ℕ) (last : Bool) → Out c value last ≡ nextKey image (getD n kindAt 0) bytes b (getD n leafAt 0) slot (placeOf n)
-          → out′ ≡ answerNumbers (Key (c .offset + c .len) value) 1 → StepMade n b k image out 0 (keyNumbers n c (afterKey last)) buf out′
-      unfolding numberOf readWalk
-      key-out value last f eo =
-          taken n b k image out four is w refl _ (step.out w image walk-next there slot e bytes eb c buf ek value last f ∙ step-advances w image walk-ok (ap isEnded walk-next)) 0 refl refl _ _ _
-          (written (afterKey last) (offset-is (next-place image _ _ b _ slot _ _ f))) refl eo
+          → (handed : HandedOut) → handed ≡ oneMore (readHanded n) (getD n depthAt 0)
+          → out′ ≡ answerNumbers (Key (c .offset + c .len) value) 1 handed → StepMade n b k image out 0 (keyNumbers n c (afterKey last) handed) buf out′
+      unfolding numberOf readWalk readHanded onward
+      key-out value last f handed eh eo =
+          taken n b k image out said-fits is w refl _ (step.out w image walk-next there slot e bytes eb c buf ek value last f ∙ step-advances w image walk-ok (ap isEnded walk-next)) 0 refl refl _ _ _
+          (rw eh (written (afterKey last) _ (offset-is (next-place image _ _ b _ slot _ _ f)))) refl (rw eh at eo)
 
       pub key-past : Past c ≡ nextKey image (getD n kindAt 0) bytes b (getD n leafAt 0) slot (placeOf n)
-          → out′ ≡ answerNumbers Nothing 1 → StepMade n b k image out 0 (keyNumbers n c Ended) buf out′
-      unfolding numberOf readWalk
-      key-past f eo =
-          taken n b k image out four is w refl _ (step.past w image walk-next there slot e bytes eb c buf ek f ∙ step-advances w image walk-ok (ap isEnded walk-next)) 0 refl refl _ _ _
-          (written Ended (offset-is (next-place image _ _ b _ slot _ _ f))) refl eo
+          → (handed : HandedOut) → handed ≡ readHanded n
+          → out′ ≡ answerNumbers Nothing 1 handed → StepMade n b k image out 0 (keyNumbers n c Ended handed) buf out′
+      unfolding numberOf readWalk readHanded
+      key-past f handed eh eo =
+          taken n b k image out said-fits is w refl _ (step.past w image walk-next there slot e bytes eb c buf ek f ∙ step-advances w image walk-ok (ap isEnded walk-next)) 0 refl refl _ _ _
+          (rw eh (written Ended _ (offset-is (next-place image _ _ b _ slot _ _ f)))) refl (rw eh at eo)
 
 -- a record that was tested: its walk was
 pub read-tested : (n b k image : List ℕ) → isRecord n b k ≡ true → (w : Walk) → w ≡ readWalk n b k

@@ -5,7 +5,7 @@ use Rattle.walk.specs.Walk.{numberOf, answerNumbers}
 use Rattle.scan.specs.Machine.{step}
 use Rattle.record_step.specs.Types.{Walk, Stepped}
 use Rattle.walk_record.specs.Record.{isRecord, readWalk, numbersOf}
-use Rattle.record_step.specs.Step.{stepNumber, left, stepNumbers, stepBuf}
+use Rattle.record_step.specs.Step.{saidIn, stepNumber, left, stepNumbers, stepBuf}
 use Rattle.record_step.specs.CodeStep.{stepOut, StepMade}
 
 module _ (n b k image out : List ℕ) where
@@ -16,12 +16,12 @@ module _ (n b k image out : List ℕ) where
   same r e h = record { number = e; numbers-left = rw (← e, ne-eqb r 0 h); buf-left = rw (← e, ne-eqb r 0 h); out-left = rw (← e, ne-eqb r 0 h) }
 
   -- no room for the answer
-  pub no-room : (length out ≡ 4 → ⊥)
+  pub no-room : (length out ≡ saidIn → ⊥)
       → StepMade n b k image out 21 n b out
   unfolding stepNumber pick
   no-room h = same 21 (rw (ne-eqb _ _ h)) (λ e. omega arith)
 
-  module _ (room : length out ≡ 4) where
+  module _ (room : length out ≡ saidIn) where
     -- a record that is no walk's
     pub no-record : isRecord n b k ≡ false
         → StepMade n b k image out 21 n b out
@@ -39,7 +39,7 @@ module _ (n b k image out : List ℕ) where
       declined r e h = same r (e ∙ number) h
 
       pub taken : (r : ℕ) → r ≡ numberOf (s .answer) → r ≡ 0
-          → (n′ b′ out′ : List ℕ) → n′ ≡ numbersOf (s .walk) → b′ ≡ s .walk .cursor .buf → out′ ≡ answerNumbers (s .answer) (s .moves)
+          → (n′ b′ out′ : List ℕ) → n′ ≡ numbersOf (s .walk) → b′ ≡ s .walk .cursor .buf → out′ ≡ answerNumbers (s .answer) (s .moves) (s .handed)
           → StepMade n b k image out 0 n′ b′ out′
       unfolding stepNumbers stepBuf stepOut left pick
       taken r e z n′ b′ out′ en eb eo =

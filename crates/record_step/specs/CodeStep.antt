@@ -7,7 +7,7 @@ use Rattle.record_step.specs.Step.{stepOf, stepNumber, left, stepNumbers
 unfoldable pub stepOut : List ℕ → List ℕ → List ℕ → List ℕ → List ℕ → List ℕ
 stepOut numbers buf bound image out =
     let s = stepOf numbers buf bound image in
-    left (stepNumber numbers buf bound image out) (answerNumbers (s .answer) (s .moves)) out
+    left (stepNumber numbers buf bound image out) (answerNumbers (s .answer) (s .moves) (s .handed)) out
 
 -- All that a step of a record leaves: its number r, the numbers, the buffer and the answer.
 pub record StepMade (numbers buf bound image out : List ℕ) (r : ℕ) (numbers′ buf′ out′ : List ℕ) : Type 0 where

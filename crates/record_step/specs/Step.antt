@@ -6,6 +6,10 @@ use Rattle.scan.specs.Machine.{step}
 use Rattle.walk_record.specs.Record.{numbersOf, readWalk, isRecord}
 use Rattle.record_step.specs.Types.{Stepped}
 
+-- How many numbers an answer has as it crosses to C (`answerNumbers`).
+abbrev pub saidIn : ℕ
+saidIn = 6
+
 -- A STEP of a record's walk.
 abbrev pub stepOf : List ℕ → List ℕ → List ℕ → List ℕ → Stepped
 stepOf numbers buf bound image = step (readWalk numbers buf bound) image
@@ -13,7 +17,7 @@ stepOf numbers buf bound image = step (readWalk numbers buf bound) image
 -- Its number, 0 where it is not declined; 21 where the record is no walk's, or there is no room for the answer.
 unfoldable pub stepNumber : List ℕ → List ℕ → List ℕ → List ℕ → List ℕ → ℕ
 stepNumber numbers buf bound image out =
-    pick (eqb (length out) 4) (pick (isRecord numbers buf bound) (numberOf (stepOf numbers buf bound image .answer)) 21) 21
+    pick (eqb (length out) saidIn) (pick (isRecord numbers buf bound) (numberOf (stepOf numbers buf bound image .answer)) 21) 21
 
 -- What a slice is left with: something new where the number is 0; else as it came.
 unfoldable pub left : ℕ → List ℕ → List ℕ → List ℕ

@@ -6,6 +6,7 @@ pub use Rattle.moves.specs.declared.fast_path.NextKey.the-variants.{Out, Past}
 pub use Rattle.node.specs.declared.permuter.Slot.{Slot}
 pub use Rattle.walk.specs.declared.scan_state.Answer.{Answer}
 pub use Rattle.walk.specs.declared.scan_state.Answer.the-variants.{Key, Nothing, Declined}
+pub use Rattle.walk.specs.declared.scan_state.HandedOut.{HandedOut}
 pub use Rattle.walk.specs.declared.scan_state.Stepped.{Stepped}
 pub use Rattle.walk.specs.declared.scan_state.Walk.{Walk}
 pub use Rattle.walk.specs.declared.scan_state.WalkState.{WalkState}

@@ -24,6 +24,7 @@ ghost use Rattle.walk.specs.Walk.{walkOk};
 ghost use Rattle.scan.specs.Machine.{step};
 ghost use Rattle.walk_record.specs.Record.{leafAt, positionAt, stateAt, stateNumber, isRecord};
 ghost use Rattle.record_step.specs.CodeInPlace.{numbersOk, placeOf};
+ghost use Rattle.record_step.specs.Step.{saidIn};
 ghost use Rattle.record_step.specs.CodeStep.{StepMade};
 
 // A step of a walk. `tested` tells that its first move has tested its leaf's version.
@@ -46,7 +47,7 @@ fn step_walk(
     out: &mut [u64],
     tested: bool,
 ) -> u8
-    requires { ⌜ length (now out) ≡ 4 ⌝ }
+    requires { ⌜ length (now out) ≡ saidIn ⌝ }
     requires { ⌜ isRecord (now numbers) (now buf) (now bound) ≡ true ⌝ }
     requires { ⌜ (tested ≡ true → (numbersOk (now numbers) (length (now image)) ≡ true) × (getD (now numbers) stateAt 0 ≡ stateNumber FindNext) × (leafThere (now image) (getD (now numbers) leafAt 0) ≡ true)) ⌝ }
     ensures { λ r. ⌜ StepMade (now (numbers .entry)) (now (buf .entry)) (now (bound .entry)) (now (image .entry)) (now (out .entry)) r (now (numbers .exit)) (now (buf .exit)) (now (out .exit)) ⌝ }
@@ -58,7 +59,7 @@ fn step_walk(
         return code;
     }
     record::put_moved(s.walk, numbers, buf);
-    let said = answer::answer_numbers(answer, s.moves);
+    let said = answer::answer_numbers(answer, s.moves, s.handed);
     record::copy_words(out, &said);
     0
 }
@@ -72,7 +73,7 @@ fn step_fast(
     out: &mut [u64],
     slot: Slot,
 ) -> u8
-    requires { ⌜ length (now out) ≡ 4 ⌝ }
+    requires { ⌜ length (now out) ≡ saidIn ⌝ }
     requires { ⌜ isRecord (now numbers) (now buf) (now bound) ≡ true ⌝ }
     requires { ⌜ numbersOk (now numbers) (length (now image)) ≡ true ⌝ }
     requires { ⌜ getD (now numbers) stateAt 0 ≡ stateNumber FindNext ⌝ }
@@ -89,14 +90,16 @@ fn step_fast(
     match next {
         NextKey::Out { k, value, last } => {
             let len = k.offset + k.len;
-            in_place::put_key(numbers, k, forward_ctx::after_key(last));
-            let said = answer::answer_numbers(Answer::Key { len, value }, 1);
+            let handed = in_place::one_more_of(numbers);
+            in_place::put_key(numbers, k, forward_ctx::after_key(last), handed);
+            let said = answer::answer_numbers(Answer::Key { len, value }, 1, handed);
             record::copy_words(out, &said);
             0
         }
         NextKey::Past(k) => {
-            in_place::put_key(numbers, k, WalkState::Ended);
-            let said = answer::answer_numbers(Answer::Nothing, 1);
+            let handed = record::read_handed(numbers);
+            in_place::put_key(numbers, k, WalkState::Ended, handed);
+            let said = answer::answer_numbers(Answer::Nothing, 1, handed);
             record::copy_words(out, &said);
             0
         }
@@ -105,7 +108,7 @@ fn step_fast(
 
 // The step of a record whose walk has handed out a key.
 fn step_next(numbers: &mut [u64], buf: &mut [u8], bound: &[u8], image: &[u8], out: &mut [u64]) -> u8
-    requires { ⌜ length (now out) ≡ 4 ⌝ }
+    requires { ⌜ length (now out) ≡ saidIn ⌝ }
     requires { ⌜ isRecord (now numbers) (now buf) (now bound) ≡ true ⌝ }
     requires { ⌜ numbersOk (now numbers) (length (now image)) ≡ true ⌝ }
     requires { ⌜ getD (now numbers) stateAt 0 ≡ stateNumber FindNext ⌝ }
@@ -132,7 +135,7 @@ pub fn step_record(
     image: &[u8],
     out: &mut [u64],
 ) -> u8
-    requires { ⌜ length (now out) ≡ 4 ⌝ }
+    requires { ⌜ length (now out) ≡ saidIn ⌝ }
     requires { ⌜ isRecord (now numbers) (now buf) (now bound) ≡ true ⌝ }
     ensures { λ r. ⌜ StepMade (now (numbers .entry)) (now (buf .entry)) (now (bound .entry)) (now (image .entry)) (now (out .entry)) r (now (numbers .exit)) (now (buf .exit)) (now (out .exit)) ⌝ }
 {

@@ -1,7 +1,7 @@
 // 02's examples of a walk, executed over the C interface: the requests of tools/examples.py (see `requests`). Behind each stand its
 // alterations, their length in two bytes first: the walk's record is altered by them before the first step, so that walks which no
-// placing gives can be asked for. Every step is printed with its moves; where one is declined, with the record after it. A request in form
-// 3 asks for the tally, in form 4 for the check, and nothing else is looked at then but what they take.
+// placing gives can be asked for. Every step is printed with its moves, depth and count; where one is declined, with the record after it. A
+// request in form 3 asks for the tally, in form 4 for the check, and nothing else is looked at then but what they take.
 use key::first;
 use node::le;
 use requests::Read;
@@ -58,6 +58,20 @@ fn put_numbers(numbers: &[u64; layout::NUMBERS]) {
     item(b" depth ", numbers[layout::DEPTH]);
     item(b" state ", numbers[layout::STATE]);
     item(b" mode ", numbers[layout::MODE]);
+    item(b" last depth ", numbers[layout::LAST_DEPTH]);
+    item(b" count ", numbers[layout::COUNT]);
+}
+
+// What a declined step says, where that is not six zeros.
+fn put_said(out: &[u64; 6]) {
+    if (out[0] | out[1] | out[2] | out[3] | out[4] | out[5]) != 0 {
+        item(b" said ", out[0]);
+        item(b" ", out[1]);
+        item(b" ", out[2]);
+        item(b" ", out[3]);
+        item(b" ", out[4]);
+        item(b" ", out[5]);
+    }
 }
 
 // One step; whether it handed out a key.
@@ -68,12 +82,13 @@ fn step(
     bound: &[u8; 256],
     image: &[u8],
 ) -> bool {
-    let mut out = [0u64; 4];
+    let mut out = [7u64; 6];
     let code = punchbronze::pb_step(numbers, buf, bound, image, &mut out);
     put(name);
     if code != 0 {
         item(b" declined ", code as u64);
         put_numbers(numbers);
+        put_said(&out);
         put(b"\n");
         return false;
     }
@@ -85,6 +100,8 @@ fn step(
         put(b" none");
     }
     item(b" moves ", out[3]);
+    item(b" depth ", out[4]);
+    item(b" count ", out[5]);
     put(b"\n");
     out[0] == 1
 }

@@ -32,7 +32,7 @@ const TOTAL: u8 = 3;
 // 4: the check with its counts, and no walk.
 const CHECK: u8 = 4;
 
-// 5: every step with its moves and the walk's state after it, and no name.
+// 5: every step with its moves, depth and count and the walk's state after it, and no name.
 const STATES: u8 = 5;
 
 // 6: as 1, by the lent form of the step.
@@ -93,11 +93,15 @@ fn shown(cursor: CursorKey) -> usize {
     std::num::wrapping_add_usize(cursor.offset, cursor.len)
 }
 
-// The rest of a step's line: its moves, and the walk after it.
-fn state(walk: Walk, moves: usize) {
+// The rest of a step's line: its moves, what it says of the keys handed out, and the walk after it.
+fn state(s: Stepped) {
+    let walk = s.walk;
+    let handed = s.handed;
     let position = walk.position;
     let cursor = walk.cursor;
-    item(b" moves ", moves as u64);
+    item(b" moves ", s.moves as u64);
+    item(b" depth ", handed.depth as u64);
+    item(b" count ", handed.count as u64);
     item(b" pos ", position.0 as u64);
     item(b" leaf ", walk.leaf);
     item(b" root ", walk.root);
@@ -113,17 +117,19 @@ fn state(walk: Walk, moves: usize) {
 }
 
 // A step's line in form 5.
-fn state_line(answer: Answer, walk: Walk, moves: usize) {
+fn state_line(s: Stepped) {
+    let answer = s.answer;
     match answer {
         Answer::Key { len, value } => {
+            let walk = s.walk;
             put(b"key ");
             put_front(walk.cursor, len);
             item(b" ", value);
-            state(walk, moves);
+            state(s);
         }
         Answer::Nothing => {
             put(b"none");
-            state(walk, moves);
+            state(s);
         }
         Answer::Declined(n) => line(b"", b"fault ", n as usize),
     }
@@ -180,7 +186,7 @@ fn answers(name: &[u8], form: u8, walk: Walk, image: &[u8]) {
         w = s.walk;
         moves = std::num::wrapping_add_usize(moves, s.moves);
         if form == STATES {
-            state_line(answer, w, s.moves);
+            state_line(s);
         }
         match answer {
             Answer::Key { len, value } => {

@@ -1,11 +1,12 @@
 -- THE THEOREM `ended-at-end` (02 [12]: "A walk that hands out the key exactly at its end is ended there; the next call answers none with zero
--- moves", "over any image"): over any bytes, and of any walk whose buffer and stack have their lengths.
-use Rattle.base.specs.Kit.{_≡_, ap, sym, _∙_, Bool, true, not, List, ℕ, arith, length, take, not-false}
+-- moves", "over any image"): over any bytes, and of any walk whose buffer and stack have their lengths. A walk whose count was the image's
+-- length has a count above it then, which 02 [13] declines with 21 before all else.
+use Rattle.base.specs.Kit.{_≡_, ap, sym, _∙_, Bool, true, not, List, ℕ, _<_, arith, length, take, not-false}
 use Rattle.base.proofs.Choice.{pick-ind}
 use Rattle.walk.specs.Walk.{walkOk, keysOf, lenOf}
 use Rattle.walk.proofs.NumberLaws.{walk-fits, fits-walk}
 use Rattle.scan.specs.Types.{Walk, Answer, Key, Nothing, Declined, Stepped}
-use Rattle.scan.specs.Machine.{Scan, run, isEnded, scanOf, afterKey, stepped, finished, advance, step}
+use Rattle.scan.specs.Machine.{Scan, run, isEnded, scanOf, afterKey, answered, stepped, finished, advance, step}
 use Rattle.scan.specs.Ends.{endsWith}
 use Rattle.scan.proofs.BeginLaws.{starts-between, step-ended}
 use Rattle.scan.proofs.Kept.{OutBy, run-kept}
@@ -13,7 +14,7 @@ use Rattle.scan.proofs.Kept.{OutBy, run-kept}
 module _ (w : Walk) (image : List ℕ) (buf-is : length (w .cursor .buf) ≡ 256) (stack-is : length (w .stack) ≡ 31) where
   -- a key is out: the walk's state goes by it, and its numbers are in range
   abbrev After : Stepped → Type 0
-  After s = keysOf (s .answer) ≡ 1 → (s .walk .state ≡ afterKey (endsWith w s)) × (walkOk (s .walk) (length image) ≡ true)
+  After s = keysOf (s .answer) ≡ 1 → (s .walk .state ≡ afterKey (endsWith w s)) × (w .handed .count < length image → walkOk (s .walk) (length image) ≡ true)
 
   abbrev bytes : List ℕ
   bytes = take (w .bound .len) (w .bound .key)
@@ -25,7 +26,7 @@ module _ (w : Walk) (image : List ℕ) (buf-is : length (w .cursor .buf) ≡ 256
         let o = walk-fits w (length image) ok in
         let r = h .in-range in (
           ap afterKey (h .last-is),
-          fits-walk _ (length image)
+          λ room. fits-walk _ (length image)
               (record {
                 length-is = o .length-is;
                 depth-fits = r .deep;
@@ -34,6 +35,8 @@ module _ (w : Walk) (image : List ℕ) (buf-is : length (w .cursor .buf) ≡ 256
                 position-fits = r .position;
                 kind-fits = o .kind-fits;
                 bound-fits = o .bound-fits;
+                last-fits = r .deep;
+                count-fits = omega arith;
               }),
         )
     after-run Nothing last moves s h e = absurd (omega arith)
@@ -54,7 +57,7 @@ module _ (w : Walk) (image : List ℕ) (buf-is : length (w .cursor .buf) ≡ 256
 
   pub ended-at-end : keysOf (step w image .answer) ≡ 1
       → (step w image .walk .state ≡ afterKey (endsWith w (step w image)))
-      × (endsWith w (step w image) ≡ true → step (step w image .walk) image ≡ record { answer = Nothing; moves = 0; walk = step w image .walk })
+      × (endsWith w (step w image) ≡ true → w .handed .count < length image → step (step w image .walk) image ≡ answered Nothing 0 (step w image .walk))
   ended-at-end e =
       let a = after-step e in
-      (a .0, λ t. sym (step-ended (step w image .walk) image (a .1) (ap isEnded (a .0 ∙ ap afterKey t))))
+      (a .0, λ t room. sym (step-ended (step w image .walk) image (a .1 room) (ap isEnded (a .0 ∙ ap afterKey t))))

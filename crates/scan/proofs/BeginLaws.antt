@@ -2,12 +2,12 @@
 -- that test and by the walk's state.
 use Rattle.base.specs.Kit.{_≡_, true, false, List, ℕ, length}
 use Rattle.base.specs.Pick.{pick}
-use Rattle.scan.specs.Types.{ScanCtx, Walk, Nothing, Declined, StartMode, WalkState, WalkStateStart as Start, WalkStateRetry as Retry, WalkStateFindNext as FindNext, Ended}
+use Rattle.scan.specs.Types.{ScanCtx, Walk, Nothing, StartMode, WalkState, WalkStateStart as Start, WalkStateRetry as Retry, WalkStateFindNext as FindNext, Ended}
 use Rattle.moves.specs.CodeMoves.{InRange}
 use Rattle.moves.proofs.Laws.{Between}
 use Rattle.walk.specs.Walk.{walkOk}
 use Rattle.walk.proofs.NumberLaws.{walk-fits}
-use Rattle.scan.specs.Machine.{scanState, ctxOf, isEnded, advance, step}
+use Rattle.scan.specs.Machine.{scanState, ctxOf, isEnded, declinedWith, answered, advance, step}
 
 start-between : (mode : StartMode) (state : WalkState) (c : ScanCtx) → InRange (c .depth) c → Between (scanState mode state) c
 start-between mode Start c h = h
@@ -26,12 +26,12 @@ starts-between w n e = start-between (w .mode) (w .state) _ (in-range w n e)
 
 -- A STEP, by the two tests that stand before its moves.
 module _ (w : Walk) (image : List ℕ) where
-  pub step-declined : walkOk w (length image) ≡ false → record { answer = Declined 21; moves = 0; walk = w } ≡ step w image
+  pub step-declined : walkOk w (length image) ≡ false → declinedWith 21 w ≡ step w image
   unfolding step pick
   step-declined e = rw e
 
   module _ (e : walkOk w (length image) ≡ true) where
-    pub step-ended : isEnded (w .state) ≡ true → record { answer = Nothing; moves = 0; walk = w } ≡ step w image
+    pub step-ended : isEnded (w .state) ≡ true → answered Nothing 0 w ≡ step w image
     unfolding step pick
     step-ended f = rw (e, f)
 

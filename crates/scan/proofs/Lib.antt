@@ -1,4 +1,4 @@
--- The lemma files of this crate; `ByRule01` and `AtEnd` have theorems.
+-- The lemma files of this crate; `ByRule01`, `AtEnd` and `Carries` have theorems.
 pub mod BeginLaws
 pub mod MoveLaws
 pub mod RunLaws
@@ -8,4 +8,5 @@ pub mod LoopLaws
 pub mod StepLaws
 pub mod Kept
 pub mod AtEnd
+pub mod Carries
 pub mod ByRule01

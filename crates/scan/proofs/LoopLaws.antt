@@ -1,6 +1,6 @@
 -- One turn of the loop: what it holds before it, what it has made of that when it comes to its pass, and what each outcome of
 -- the pass comes to. The moves that are left always come to what all of them come to.
-use Rattle.base.specs.Kit.{_≡_, refl, sym, _∙_, ap, subst, Bool, true, false, false≢true, true≢false, and-eq-true-iff, List, ℕ, _+_, _-_, _≤_, _<_, arith, sub-zero, not-true, eqb-true, length}
+use Rattle.base.specs.Kit.{_≡_, refl, sym, _∙_, ap, subst, Bool, true, false, false≢true, true≢false, and-eq-true-iff, List, ℕ, _+_, _-_, _^_, _≤_, _<_, arith, sub-zero, not-true, eqb-true, length}
 use Rattle.base.proofs.Choice.{pick-on, pick-off}
 use Rattle.key.specs.Part.{part}
 use Rattle.search.specs.Traversal.{leafThere}
@@ -49,6 +49,7 @@ module _ (whole : Bool) (w : Walk) (image : List ℕ) (kind : ℕ) (bound : List
   pub record Held (s : Scan) (moves keys : ℕ) (tested : Bool) : Type 0 where
     pub within : moves ≤ length image
     pub few : keys ≤ moves
+    pub room : w .handed .count < 2 ^ 63
     pub same : left (length image - moves) keys moves s ≡ allBy whole w image
     pub fits : Between (s .ctx .state) (s .ctx)
     pub long : length (s .buf) ≡ 256
@@ -65,6 +66,7 @@ module _ (whole : Bool) (w : Walk) (image : List ℕ) (kind : ℕ) (bound : List
   pub record Made (p : Pass) (b : List ℕ) (stack : List LayerContext) (moves keys : ℕ) : Type 0 where
     pub within : moves + 1 ≤ length image
     pub few : keys ≤ moves
+    pub room : w .handed .count < 2 ^ 63
     pub after : (o : Outcome) → p .outcome ≡ o → After o (p .ctx)
     pub long : length b ≡ 256
     pub same : (o : Outcome) → p .outcome ≡ o
@@ -78,12 +80,13 @@ module _ (whole : Bool) (w : Walk) (image : List ℕ) (kind : ℕ) (bound : List
   comes r e = ap (advancedOf w) e
 
   -- before the first move
-  pub begins : walkOk w (length image) ≡ true → length (w .cursor .buf) ≡ 256 → kind ≡ w .bound .kind → bound ≡ part (w .bound .key) 0 (w .bound .len)
+  pub begins : walkOk w (length image) ≡ true → w .handed .count < 2 ^ 63 → length (w .cursor .buf) ≡ 256 → kind ≡ w .bound .kind → bound ≡ part (w .bound .key) 0 (w .bound .len)
       → (begun : Bool) → (begun ≡ true → (w .state ≡ walk.FindNext) × (leafThere image (w .leaf) ≡ true)) → Held (scanOf w) 0 0 begun
   unfolding part scanOf allBy
-  begins ok l k b begun t = record {
+  begins ok room l k b begun t = record {
     within = omega arith;
     few = omega arith;
+    room = room;
     same = rw (k, b, sub-zero);
     fits = starts-between w (length image) ok;
     long = l;
@@ -122,6 +125,7 @@ module _ (whole : Bool) (w : Walk) (image : List ℕ) (kind : ℕ) (bound : List
             held = record {
               within = f .within;
               few = f .few;
+              room = h .room;
               same =
                   ap (λ (t : Bool). runBy t image kind bound (length image - a .moves) (a .keys) (a .moves) (record { ctx = a .ctx; buf = b; stack = s .stack })) (along-so (s .ctx) whole e .0)
                   ∙ pick-on _ (isSlow (a .end)) refl _ _ _ g refl ∙ f .same (s .stack) ∙ all-so true (along-so (s .ctx) whole e .0);
@@ -174,6 +178,7 @@ module _ (whole : Bool) (w : Walk) (image : List ℕ) (kind : ℕ) (bound : List
         made e f = record {
           within = omega arith;
           few = h .few;
+          room = h .room;
           after = pass-in-range (c .state) image kind bound (s .buf) c (r .fits) (h .long) p e;
           long = buffer-in-range (c .state) image kind bound (s .buf) c (r .fits) (h .long) b f;
           same = λ o g. sym (turn image kind bound whole moves keys s _ _ more (r .is ∙ (rw (← e, ← f, g)))) ∙ h .same;
@@ -185,6 +190,7 @@ module _ (whole : Bool) (w : Walk) (image : List ℕ) (kind : ℕ) (bound : List
     goes-on e = record {
       within = m .within;
       few = omega (arith, m .few);
+      room = m .room;
       same = m .same Continue e;
       fits = m .after Continue e;
       long = m .long;
@@ -200,6 +206,7 @@ module _ (whole : Bool) (w : Walk) (image : List ℕ) (kind : ℕ) (bound : List
         rw f (record {
           within = m .within;
           few = omega (arith, m .few);
+          room = m .room;
           same = m .same (Push root) e;
           fits = entered-in-range (p .ctx) _ refl refl (p .ctx .state) (l .0) (l .1) refl;
           long = m .long;
@@ -217,6 +224,7 @@ module _ (whole : Bool) (w : Walk) (image : List ℕ) (kind : ℕ) (bound : List
         record {
           within = m .within;
           few = omega (arith, m .few);
+          room = m .room;
           same = pick-on _ (goesOn whole last) refl _ _ _ t refl ∙ m .same (Emit value last) e;
           fits = subst (λ (x : ScanState). Between x (p .ctx)) (sym (l .0)) i;
           long = m .long;

@@ -1,5 +1,6 @@
 pub mod Types
 pub mod Machine
 pub mod Ends
+pub mod Carries
 pub mod MovesOn
 pub mod CodeLoop

@@ -2,8 +2,8 @@
 -- loop, its Start and the numbers above are the machine").
 use Rattle.base.specs.Kit.{Bool, true, false, not, _&&_, List, ℕ, zero, suc, _+_, _-_, eqb, length, take, getD, set}
 use Rattle.base.specs.Pick.{pick}
-use Rattle.scan.specs.Types.{StartMode, LayerContext, WalkState, WalkStateStart as Start, WalkStateRetry as Retry, WalkStateFindNext as FindNext, Ended, Walk, ScanState, ScanCtx, Outcome, Continue, Push, Emit, Exhausted, OutcomeFault as Fault, Answer, Key, Nothing, Declined, Stepped}
-use Rattle.walk.specs.Walk.{emptyContext, walkOk}
+use Rattle.scan.specs.Types.{StartMode, LayerContext, WalkState, WalkStateStart as Start, WalkStateRetry as Retry, WalkStateFindNext as FindNext, Ended, HandedOut, Walk, ScanState, ScanCtx, Outcome, Continue, Push, Emit, Exhausted, OutcomeFault as Fault, Answer, Key, Nothing, Declined, Stepped}
+use Rattle.walk.specs.Walk.{nothingYet, oneMore, emptyContext, walkOk}
 use Rattle.moves.specs.Moves.{Taken, inLayer, passIn}
 use Rattle.moves.specs.declared.context.ScanState.the-variants as loop
 
@@ -125,8 +125,8 @@ unfoldable pub scanOf : Walk → Scan
 scanOf w = record { ctx = ctxOf w; buf = w .cursor .buf; stack = w .stack }
 
 -- The walk after a call: what the loop holds, with image length, bound and start mode as they were.
-abbrev pub walkOf : Walk → WalkState → Scan → Walk
-walkOf w state s = record {
+abbrev pub walkOf : Walk → WalkState → HandedOut → Scan → Walk
+walkOf w state handed s = record {
   «image_len» = w .«image_len»;
   root = s .ctx .root;
   leaf = s .ctx .leaf;
@@ -137,6 +137,7 @@ walkOf w state s = record {
   bound = w .bound;
   mode = w .mode;
   state = state;
+  handed = handed;
 }
 
 -- 02 [12]: "A walk that hands out the key exactly at its end is ended there".
@@ -145,10 +146,19 @@ afterKey true = Ended
 afterKey false = FindNext
 
 -- "A declined call returns its number, zero elsewhere, and any walk as it came."
+abbrev pub declinedWith : ℕ → Walk → Stepped
+declinedWith n w = record { answer = Declined n; moves = 0; handed = nothingYet; walk = w }
+
+-- An answer with its moves, the walk after them, and what that has handed out.
+abbrev pub answered : Answer → ℕ → Walk → Stepped
+answered answer moves w = record { answer = answer; moves = moves; handed = w .handed; walk = w }
+
+-- 02 [13]: "The step's answer and the walk itself carry the depth at which the last key was found and how many have been handed out so far",
+-- "and a none gives both as they stand".
 abbrev pub stepped : Walk → Answer → Bool → ℕ → Scan → Stepped
-stepped w (Key len value) last moves s = record { answer = Key len value; moves = moves; walk = walkOf w (afterKey last) s }
-stepped w Nothing last moves s = record { answer = Nothing; moves = moves; walk = walkOf w Ended s }
-stepped w (Declined n) last moves s = record { answer = Declined n; moves = 0; walk = w }
+stepped w (Key len value) last moves s = answered (Key len value) moves (walkOf w (afterKey last) (oneMore (w .handed) (s .ctx .depth)) s)
+stepped w Nothing last moves s = answered Nothing moves (walkOf w Ended (w .handed) s)
+stepped w (Declined n) last moves s = declinedWith n w
 
 unfoldable pub finished : Walk → Ran → Stepped
 finished w r = stepped w (r .answer) (r .last) (r .moves) (r .scan)
@@ -160,5 +170,4 @@ advance w image = finished w (run image (w .bound .kind) (take (w .bound .len) (
 -- "An ended walk then answers none, zero moves."
 unfoldable pub step : Walk → List ℕ → Stepped
 step w image =
-    pick (not (walkOk w (length image))) (record { answer = Declined 21; moves = 0; walk = w })
-    (pick (isEnded (w .state)) (record { answer = Nothing; moves = 0; walk = w }) (advance w image))
+    pick (not (walkOk w (length image))) (declinedWith 21 w) (pick (isEnded (w .state)) (answered Nothing 0 w) (advance w image))

@@ -9,13 +9,14 @@ use Rattle.scan.specs.Machine.{scanOf, walkOf, step}
 
 -- A walk with another state.
 abbrev pub inState : WalkState → Walk → Walk
-inState state w = walkOf w state (scanOf w)
+inState state w = walkOf w state (w .handed) (scanOf w)
 
 -- A step that hands out a key leaves the walk in FindNext.
 unfoldable pub movedOn : Stepped → Stepped
 movedOn s = record {
   answer = s .answer;
   moves = s .moves;
+  handed = s .handed;
   walk = pick (eqb (keysOf (s .answer)) 0) (s .walk) (inState FindNext (s .walk));
 }
 

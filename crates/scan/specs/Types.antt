@@ -21,6 +21,7 @@ pub use Rattle.scan.specs.declared.along_leaf.LeafEnd.the-variants.{Slow
 pub use Rattle.scan.specs.declared.forward_ctx.Advanced.{Advanced}
 pub use Rattle.walk.specs.declared.scan_state.Answer.{Answer}
 pub use Rattle.walk.specs.declared.scan_state.Answer.the-variants.{Key, Nothing, Declined}
+pub use Rattle.walk.specs.declared.scan_state.HandedOut.{HandedOut}
 pub use Rattle.walk.specs.declared.scan_state.LayerContext.{LayerContext}
 pub use Rattle.walk.specs.declared.scan_state.Placed.{Placed}
 pub use Rattle.walk.specs.declared.scan_state.Stepped.{Stepped}

@@ -8,15 +8,16 @@ use moves::context;
 use moves::context::Outcome;
 use moves::context::ScanCtx;
 use moves::context::ScanState;
+use walk::handed_out;
 use walk::scan_state::Answer;
 use walk::scan_state::LayerContext;
 use walk::scan_state::Stepped;
 use walk::scan_state::Walk;
 use walk::scan_state::WalkState;
-ghost use Rattle.base.specs.Kit.{_≡_, true, false, _+_, _≤_, length};
+ghost use Rattle.base.specs.Kit.{_≡_, true, false, _+_, _^_, _≤_, _<_, length};
 ghost use Rattle.scan.specs.Types.{Key};
 ghost use Rattle.walk.specs.Walk.{emptyContext, walkOk};
-ghost use Rattle.scan.specs.Machine.{isUp, layerOf, afterKey, stepped, advance};
+ghost use Rattle.scan.specs.Machine.{isUp, layerOf, afterKey, declinedWith, stepped, advance};
 ghost use Rattle.scan.specs.CodeLoop.{Begun, cameTo, goesOn, emittedBy, goneNumber, isSlow, leftAnswer, advanceBy, advancedOf, keysAhead};
 
 // What the loop comes to: how many keys were out, and the step that its moves make.
@@ -76,6 +77,18 @@ pub fn after_key(last: bool) -> WalkState
     WalkState::FindNext
 }
 
+// A declined step: its number, zero elsewhere, and the walk as it came.
+pub fn declined(n: u8, walk: Walk) -> Stepped
+    ensures { λ r. ⌜ r ≡ declinedWith n walk ⌝ }
+{
+    Stepped {
+        answer: Answer::Declined(n),
+        moves: 0,
+        handed: handed_out::nothing_yet(),
+        walk: walk,
+    }
+}
+
 // A step by its answer, whether that is the last key, its moves, and what the loop holds after them.
 pub fn stepped(
     walk: Walk,
@@ -86,27 +99,30 @@ pub fn stepped(
     buf: [u8; 256],
     stack: [LayerContext; 31],
 ) -> Stepped
+    requires { ⌜ walk .handed .count < 2 ^ 63 ⌝ }
     ensures { λ r. ⌜ r ≡ stepped walk answer last moves (record { ctx = c; buf = buf; stack = stack }) ⌝ }
 {
+    let before = walk.handed;
     match answer {
-        Answer::Key { len, value } => Stepped {
-            answer: Answer::Key {
-                len: len,
-                value: value,
-            },
-            moves: moves,
-            walk: scan_ctx::walk_of(walk, after_key(last), c, buf, stack),
-        },
+        Answer::Key { len, value } => {
+            let handed = handed_out::one_more(before, c.depth);
+            Stepped {
+                answer: Answer::Key {
+                    len: len,
+                    value: value,
+                },
+                moves: moves,
+                handed: handed,
+                walk: scan_ctx::walk_of(walk, after_key(last), handed, c, buf, stack),
+            }
+        }
         Answer::Nothing => Stepped {
             answer: Answer::Nothing,
             moves: moves,
-            walk: scan_ctx::walk_of(walk, WalkState::Ended, c, buf, stack),
+            handed: before,
+            walk: scan_ctx::walk_of(walk, WalkState::Ended, before, c, buf, stack),
         },
-        Answer::Declined(n) => Stepped {
-            answer: Answer::Declined(n),
-            moves: 0,
-            walk: walk,
-        },
+        Answer::Declined(n) => declined(n, walk),
     }
 }
 
@@ -130,6 +146,7 @@ fn came_to(
     buf: [u8; 256],
     stack: [LayerContext; 31],
 ) -> Advanced
+    requires { ⌜ walk .handed .count < 2 ^ 63 ⌝ }
     ensures { λ r. ⌜ r ≡ advancedOf walk (cameTo answer false keys moves (record { ctx = c; buf = buf; stack = stack })) ⌝ }
 {
     Advanced {
@@ -160,6 +177,7 @@ fn emitted(
     buf: [u8; 256],
     stack: [LayerContext; 31],
 ) -> Advanced
+    requires { ⌜ walk .handed .count < 2 ^ 63 ⌝ }
     requires { ⌜ c .cursor .offset + c .cursor .len ≤ 256 ⌝ }
     ensures { λ r. ⌜ r ≡ advancedOf walk (emittedBy whole value last keys moves (record { ctx = c; buf = buf; stack = stack })) ⌝ }
 {

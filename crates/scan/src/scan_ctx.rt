@@ -4,6 +4,7 @@ use cursor::cursor_key::CursorPlace;
 use cursor::range_bound::StartMode;
 use moves::context::ScanCtx;
 use moves::context::ScanState;
+use walk::scan_state::HandedOut;
 use walk::scan_state::LayerContext;
 use walk::scan_state::Walk;
 use walk::scan_state::WalkState;
@@ -62,11 +63,12 @@ pub fn ctx_of(walk: Walk) -> ScanCtx
 pub fn walk_of(
     walk: Walk,
     state: WalkState,
+    handed: HandedOut,
     c: ScanCtx,
     buf: [u8; 256],
     stack: [LayerContext; 31],
 ) -> Walk
-    ensures { λ r. ⌜ r ≡ walkOf walk state (record { ctx = c; buf = buf; stack = stack }) ⌝ }
+    ensures { λ r. ⌜ r ≡ walkOf walk state handed (record { ctx = c; buf = buf; stack = stack }) ⌝ }
 {
     let k = c.cursor;
     let position = c.position;
@@ -88,5 +90,6 @@ pub fn walk_of(
         bound: bound,
         mode: mode,
         state: state,
+        handed: handed,
     }
 }

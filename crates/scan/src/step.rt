@@ -26,11 +26,7 @@ fn step_next(walk: Walk, image: &[u8]) -> Stepped
     ensures { λ r. ⌜ r ≡ advance walk (now (image .entry)) ⌝ }
 {
     if !traversal::is_leaf_there(image, walk.leaf) {
-        return Stepped {
-            answer: Answer::Declined(forward_ctx::gone_number(image.len())),
-            moves: 0,
-            walk: walk,
-        };
+        return forward_ctx::declined(forward_ctx::gone_number(image.len()), walk);
     }
     let c = scan_ctx::ctx_of(walk);
     let at = c.leaf as usize;
@@ -65,17 +61,15 @@ pub fn step(walk: Walk, image: &[u8]) -> Stepped
     ensures { λ r. ⌜ r ≡ step walk (now (image .entry)) ⌝ }
 {
     if !walk_ok::is_walk_ok(walk, image.len()) {
-        return Stepped {
-            answer: Answer::Declined(21),
-            moves: 0,
-            walk: walk,
-        };
+        return forward_ctx::declined(21, walk);
     }
     let state = walk.state;
+    let handed = walk.handed;
     match state {
         WalkState::Ended => Stepped {
             answer: Answer::Nothing,
             moves: 0,
+            handed: handed,
             walk: walk,
         },
         WalkState::Start => forward_ctx::advance_no_alloc(walk, image, false),

@@ -14,19 +14,22 @@ use Rattle.cursor.specs.declared.range_bound.StartMode.the-variants.{Above, Fro
 use Rattle.node.specs.Layout.{keyCount}
 use Rattle.layering.specs.Tree.{treeOf}
 use Rattle.layering.specs.Keys.{Pair, livePairs}
+use Rattle.layering.specs.Depths.{depthsN, depthOf}
 use Rattle.layering.specs.Ascending.{All, Ascending}
 use Rattle.layering.specs.Accepted.{Obeys}
 use Rattle.layering.specs.Sieve.{past, rowOf}
 use Rattle.verify.specs.Check.{checkNumber, checkCounts, check}
 use Rattle.verify.specs.Acceptance.{treeCounts}
-use Rattle.walk.specs.Walk.{keysOf}
+use Rattle.walk.specs.Walk.{keysOf, nothingYet}
 use Rattle.walk.specs.Placing.{placeFault, place, placeShort}
 use Rattle.walk.specs.declared.scan_state.Answer.the-variants.{Nothing}
 use Rattle.walk.specs.declared.scan_state.Walk.{Walk}
-use Rattle.scan.specs.Machine.{afterKey, step}
+use Rattle.scan.specs.Machine.{afterKey, declinedWith, answered, step}
 use Rattle.scan.specs.Ends.{endsWith}
-use Rattle.demands.specs.Demand.{Call, steps, Lent, Demand3}
+use Rattle.scan.specs.Carries.{Carries}
+use Rattle.demands.specs.Demand.{Call, steps, Lent, own, Demand3}
 use Rattle.demands.specs.AtEnd.{stepsOn, StopsAtEnd}
+use Rattle.demands.specs.HandedOut.{walkAfter, keysOut, handedBy, dueHanded}
 use Rattle.survey.specs.Tally.{tallyNumber, tallyCount, tally}
 use Rattle.survey.specs.Tally01.{tally01}
 use Rattle.sheet.specs.Sheet.{sheet}
@@ -34,18 +37,22 @@ use Rattle.listed.specs.Listed.{listedPairs, walkMoves, listed, AllLines}
 use Rattle.worked_examples.specs.Examples.{machineSays, paperSays, table}
 use Rattle.walk_record.specs.Record.{numbersOf, readWalk, isRecord}
 use Rattle.punchbronze.specs.Interface.{fitting, placedNumber, PutPlaced}
-use Rattle.c_demands.specs.CDemand.{CCall, CLent, CDemand3}
+use Rattle.c_demands.specs.CDemand.{CCall, cSteps, CLent, made, cHanded, CDemand3}
 use Rattle.scan.proofs.ByRule01.{ByRule01}
+use Rattle.layering.proofs.Depths.{SameKeys, Has}
 use Rattle.verify.proofs.Theorem as verify
 use Rattle.cursor.proofs.Bound as bound
 use Rattle.layering.proofs.Pairs as layering
 use Rattle.layering.proofs.Asked as asked
 use Rattle.layering.proofs.Lives as lives
+use Rattle.layering.proofs.Depths as depths
 use Rattle.demands.proofs.Demand as demands
 use Rattle.demands.proofs.AtEnd as at-end
+use Rattle.demands.proofs.HandedOut as handed
 use Rattle.walk.proofs.PlaceLaws as walk
 use Rattle.scan.proofs.ByRule01 as scan
 use Rattle.scan.proofs.AtEnd as ends
+use Rattle.scan.proofs.Carries as carries
 use Rattle.survey.proofs.Theorem as survey
 use Rattle.survey.proofs.AsBefore as as-before
 use Rattle.listed.proofs.Listed as listing
@@ -115,11 +122,11 @@ at-end-own = bound.at-end-own
 pub at-end-only : (kind : ℕ) (bound key : List ℕ) → atEnd kind bound key ≡ true → (kind ≡ 1) × (key ≡ bound)
 at-end-only = bound.at-end-only
 
--- A walk that hands out that key is ended there, any other walk that hands out a key is not; and its next call answers none with zero moves.
--- Over any bytes, of any walk whose buffer and stack have their lengths.
+-- A walk that hands out that key is ended there, any other walk that hands out a key is not; and its next call answers none with zero moves,
+-- unless its count has passed the image's length (02 [13]). Over any bytes, of any walk whose buffer and stack have their lengths.
 pub ended-at-end : (w : Walk) (image : List ℕ) → length (w .cursor .buf) ≡ 256 → length (w .stack) ≡ 31 → keysOf (step w image .answer) ≡ 1
     → (step w image .walk .state ≡ afterKey (endsWith w (step w image)))
-    × (endsWith w (step w image) ≡ true → step (step w image .walk) image ≡ record { answer = Nothing; moves = 0; walk = step w image .walk })
+    × (endsWith w (step w image) ≡ true → w .handed .count < length image → step (step w image .walk) image ≡ answered Nothing 0 (step w image .walk))
 ended-at-end = ends.ended-at-end
 
 -- Over an accepted image the answers of every list of steps are those of the machine that moved on past its end, and the moves up to the first
@@ -128,6 +135,35 @@ pub stops-at-end : (image : List ℕ) → Bytes image → checkNumber (check ima
     → (kind : ℕ) (bound : List ℕ) → place image mode cursor kind bound .code ≡ 0 → (calls : List Call) → Lent image calls
     → (let w = place image mode cursor kind bound .walk in StopsAtEnd kind bound (steps w calls) (stepsOn w calls))
 stops-at-end = at-end.stops-at-end
+
+-- 02 [13]: what a step carries of the keys that have been handed out, over any bytes and any walk: the answer what its walk does, zeros where it is
+-- declined; the count is raised with a key and only then; the depth is that of the layer in which the walk stands behind its key.
+pub step-carries : (w : Walk) (image : List ℕ) → Carries w (step w image)
+step-carries = carries.step-carries
+
+-- A walk that hands out a key where its count is the image's length, or above it, is declined with 21 next.
+pub past-count : (w : Walk) (image : List ℕ) → keysOf (step w image .answer) ≡ 1 → length image ≤ w .handed .count
+    → step (step w image .walk) image ≡ declinedWith 21 (step w image .walk)
+past-count = carries.past-count
+
+-- After every list of steps of either form from a fresh placing, over any image and any bytes that they are lent, the walk's count equals the
+-- number of keys handed out.
+pub count-is-keys : (image : List ℕ) (mode : StartMode) (cursor : List ℕ) (kind : ℕ) (bound : List ℕ) (calls : List Call)
+    → (let w = place image mode cursor kind bound .walk in walkAfter w calls .handed .count ≡ keysOut (steps w calls))
+count-is-keys = handed.count-is-keys
+
+-- Over an accepted image: what each step of a list carries, the depth of its key being that of the layer in which the tree holds it.
+pub carried-due : (image : List ℕ) → Bytes image → checkNumber (check image) ≡ 0 → (mode : StartMode) (cursor : List ℕ) → Bytes cursor
+    → (kind : ℕ) (bound : List ℕ) → place image mode cursor kind bound .code ≡ 0 → (calls : List Call) → Lent image calls
+    → handedBy (steps (place image mode cursor kind bound .walk) calls) ≡ dueHanded image (own image calls) (rowOf image mode cursor kind bound) nothingYet
+carried-due = handed.carried-due
+
+-- The keys that have a depth are those of the live pairs, one by one, and each is found at its own.
+pub depths-of-pairs : (image : List ℕ) → SameKeys (depthsN 0 [] (treeOf image)) (livePairs image)
+depths-of-pairs = depths.depths-of-pairs
+
+pub live-depths : (image : List ℕ) → Bytes image → Obeys image → Has (depthOf image) (depthsN 0 [] (treeOf image))
+live-depths image b o = depths.live-depths image (layering.pairs-ascend image b o)
 
 -- 02 [1]: up to eight bytes a placing begins by 01's own rule, over every image.
 pub placed-by-rule-01 : (image : List ℕ) (mode : StartMode) (cursor : List ℕ) (kind : ℕ) (bound : List ℕ)
@@ -178,6 +214,13 @@ pub c-demand-3 : (image : List ℕ) → Bytes image → checkNumber (check image
     → PutPlaced (place image mode cursor kind key) numbers buf bound 0 numbers′ buf′ bound′
     → (calls : List CCall) → CLent image calls → CDemand3 image mode cursor kind key numbers′ buf′ bound′ calls
 c-demand-3 = c.c-demand-3
+
+-- 02 [13]: what these calls carry.
+pub c-carried-due : (image : List ℕ) → Bytes image → checkNumber (check image) ≡ 0 → (mode : StartMode) (cursor : List ℕ) → Bytes cursor
+    → (kind : ℕ) (key numbers buf bound numbers′ buf′ bound′ : List ℕ)
+    → PutPlaced (place image mode cursor kind key) numbers buf bound 0 numbers′ buf′ bound′ → (calls : List CCall) → CLent image calls
+    → cHanded (cSteps numbers′ buf′ bound′ calls) ≡ dueHanded image (made image calls) (rowOf image mode cursor kind key) nothingYet
+c-carried-due = c.c-carried-due
 
 -- The placings that are taken, into a record of a record's lengths.
 pub is-placed : (image : List ℕ) → checkNumber (check image) ≡ 0 → (mode : StartMode) (cursor : List ℕ) (kind : ℕ) (key numbers buf bound : List ℕ)

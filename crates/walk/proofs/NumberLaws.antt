@@ -20,6 +20,8 @@ pub record Ok (w : Walk) (n : ℕ) : Type 0 where
   pub position-fits : w .position .0 ≤ 15
   pub kind-fits : w .bound .kind ≤ 2
   pub bound-fits : w .bound .len ≤ 256
+  pub last-fits : w .handed .depth ≤ 31
+  pub count-fits : w .handed .count ≤ n
 
 pub walk-fits : (w : Walk) (n : ℕ) → walkOk w n ≡ true → Ok w n
 unfolding walkOk
@@ -29,15 +31,19 @@ walk-fits w n e =
     let o = and-eq-true-iff _ _ .0 (d .1) in
     let l = and-eq-true-iff _ _ .0 (o .1) in
     let p = and-eq-true-iff _ _ .0 (l .1) in
-    let b = and-eq-true-iff _ _ .0 (p .1) in
+    let k = and-eq-true-iff _ _ .0 (p .1) in
+    let b = and-eq-true-iff _ _ .0 (k .1) in
+    let h = and-eq-true-iff _ _ .0 (b .1) in
     record {
       length-is = eqb-true _ _ (i .0);
       depth-fits = leb-true _ _ (d .0);
       offset-is = eqb-true _ _ (o .0);
       end-fits = leb-true _ _ (l .0);
       position-fits = leb-true _ _ (p .0);
-      kind-fits = leb-true _ _ (b .0);
-      bound-fits = leb-true _ _ (b .1);
+      kind-fits = leb-true _ _ (k .0);
+      bound-fits = leb-true _ _ (b .0);
+      last-fits = leb-true _ _ (h .0);
+      count-fits = leb-true _ _ (h .1);
     }
 
 pub fits-walk : (w : Walk) (n : ℕ) → Ok w n → walkOk w n ≡ true
@@ -51,4 +57,6 @@ fits-walk w n o =
       le-leb (w .position .0) 15 (o .position-fits),
       le-leb (w .bound .kind) 2 (o .kind-fits),
       le-leb (w .bound .len) 256 (o .bound-fits),
+      le-leb (w .handed .depth) 31 (o .last-fits),
+      le-leb (w .handed .count) n (o .count-fits),
     )

@@ -1,4 +1,5 @@
 // Placing a walk (01, "Place a walk"): `place` and its short form take anything.
+use crate::handed_out;
 use crate::scan_state::LayerContext;
 use crate::scan_state::Placed;
 use crate::scan_state::Walk;
@@ -36,6 +37,7 @@ fn new_walk(
         bound: bound,
         mode: mode,
         state: state,
+        handed: handed_out::nothing_yet(),
     }
 }
 

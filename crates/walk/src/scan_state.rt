@@ -18,6 +18,12 @@ pub enum WalkState {
     Ended,
 }
 
+// What a walk has handed out: the depth at which the last key was found, and how many keys; zeros before the first.
+pub struct HandedOut {
+    pub depth: usize,
+    pub count: usize,
+}
+
 // A walk between calls.
 pub struct Walk {
     pub image_len: usize,
@@ -30,6 +36,7 @@ pub struct Walk {
     pub bound: RangeBound,
     pub mode: StartMode,
     pub state: WalkState,
+    pub handed: HandedOut,
 }
 
 // A placing: 01's number, 0 where it was not declined, and the walk.
@@ -45,9 +52,10 @@ pub enum Answer {
     Declined(u8),
 }
 
-// A step: its answer, its moves, and the walk after it.
+// A step: its answer, its moves, what the walk has handed out with it (zeros where the step is declined), and the walk after it.
 pub struct Stepped {
     pub answer: Answer,
     pub moves: usize,
+    pub handed: HandedOut,
     pub walk: Walk,
 }

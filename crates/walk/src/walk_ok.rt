@@ -10,6 +10,7 @@ pub fn is_walk_ok(walk: Walk, n: usize) -> bool
     let k = walk.cursor;
     let p = walk.position;
     let b = walk.bound;
+    let h = walk.handed;
     if walk.image_len != n {
         return false;
     }
@@ -28,5 +29,11 @@ pub fn is_walk_ok(walk: Walk, n: usize) -> bool
     if 2 < b.kind {
         return false;
     }
-    b.len <= 256
+    if 256 < b.len {
+        return false;
+    }
+    if 31 < h.depth {
+        return false;
+    }
+    h.count <= n
 }

@@ -4,7 +4,7 @@ use Rattle.base.specs.Kit.{_≡_, refl, true, List, ℕ, zero, suc, _≤_, arit
 use Rattle.base.specs.Pick.{pick}
 use Rattle.walk.specs.Walk.{emptyContext}
 use Rattle.walk_record.specs.Types.{StartMode, Above, From, Walk, WalkState, Start, Retry, FindNext, Ended}
-use Rattle.walk_record.specs.Record.{modeNumber, modeOf, stateNumber, stateOf, stackNumbers, numbersOf, entryAt, entries, readWalk, sized, isRecord}
+use Rattle.walk_record.specs.Record.{numbersIn, modeNumber, modeOf, stateNumber, stateOf, stackNumbers, numbersOf, entryAt, entries, readWalk, sized, isRecord}
 use Rattle.walk_record.proofs.Tabled.{tabled, tabled-all}
 use Rattle.walk_record.proofs.Told.{record-told}
 
@@ -78,7 +78,7 @@ pub walk-inverse : (numbers buf bound : List ℕ) → isRecord numbers buf bound
 unfolding readWalk numbersOf stackNumbers entries entryAt tabled
 walk-inverse numbers buf bound e =
     let t = record-told numbers buf bound e in (
-      rw (number-back (getD numbers 10 0) (t .state-fits), mode-number-back (getD numbers 11 0) (t .mode-fits)) (tabled-all 0 numbers 74 (t .lengths .numbers-is)),
+      rw (number-back (getD numbers 10 0) (t .state-fits), mode-number-back (getD numbers 11 0) (t .mode-fits)) (tabled-all 0 numbers numbersIn (t .lengths .numbers-is)),
       refl,
       refl,
     )

@@ -1,9 +1,9 @@
 -- What the tests of a record say.
 use Rattle.base.specs.Kit.{_≡_, true, and-eq-true-iff, List, ℕ, _≤_, length, getD, leb-true, eqb-true}
-use Rattle.walk_record.specs.Record.{sized, isRecord}
+use Rattle.walk_record.specs.Record.{numbersIn, sized, isRecord}
 
 pub record Lengths (numbers buf bound : ℕ) : Type 0 where
-  pub numbers-is : numbers ≡ 74
+  pub numbers-is : numbers ≡ numbersIn
   pub buf-is : buf ≡ 256
   pub bound-is : bound ≡ 256
 

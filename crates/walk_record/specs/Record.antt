@@ -1,11 +1,11 @@
--- A walk as a record that crosses to C: 74 numbers, and two buffers of 256 bytes, the cursor's and the bound's.
+-- A walk as a record that crosses to C: 76 numbers, and two buffers of 256 bytes, the cursor's and the bound's.
 use Rattle.base.specs.Kit.{Bool, _&&_, List, [], _∷_, ℕ, zero, suc, _+_, _*_, eqb, leb, length, getD}
 use Rattle.base.specs.Pick.{pick}
 use Rattle.walk.specs.Walk.{emptyContext}
 use Rattle.walk_record.specs.Types.{StartMode, Above, From, LayerContext, Walk, WalkState, Start, Retry, FindNext, Ended}
 
 -- Where each number stands: image length, root, leaf, position; the cursor's offset, length and ikey; depth; the bound's kind and length;
--- state and start mode; and from `stackAt` on root and leaf of each of the 31 stack entries.
+-- state and start mode; what has been handed out; and from `stackAt` on root and leaf of each of the 31 stack entries.
 abbrev pub imageLenAt : ℕ
 imageLenAt = 0
 
@@ -42,11 +42,17 @@ stateAt = 10
 abbrev pub modeAt : ℕ
 modeAt = 11
 
+abbrev pub lastDepthAt : ℕ
+lastDepthAt = 12
+
+abbrev pub countAt : ℕ
+countAt = 13
+
 abbrev pub stackAt : ℕ
-stackAt = 12
+stackAt = 14
 
 abbrev pub numbersIn : ℕ
-numbersIn = 74
+numbersIn = 76
 
 -- A state's and a start mode's number.
 unfoldable pub stateNumber : WalkState → ℕ
@@ -75,7 +81,8 @@ stackNumbers stack i (suc n) =
 unfoldable pub numbersOf : Walk → List ℕ
 numbersOf w =
     w .«image_len» ∷ w .root ∷ w .leaf ∷ w .position .0 ∷ w .cursor .offset ∷ w .cursor .len ∷ w .cursor .ikey ∷ w .depth
-    ∷ w .bound .kind ∷ w .bound .len ∷ stateNumber (w .state) ∷ modeNumber (w .mode) ∷ stackNumbers (w .stack) 0 31
+    ∷ w .bound .kind ∷ w .bound .len ∷ stateNumber (w .state) ∷ modeNumber (w .mode) ∷ w .handed .depth ∷ w .handed .count
+    ∷ stackNumbers (w .stack) 0 31
 
 -- TO A WALK. The stack's entry i, and n entries from i on.
 unfoldable pub entryAt : List ℕ → ℕ → LayerContext
@@ -97,6 +104,7 @@ readWalk numbers buf bound = record {
   bound = record { kind = getD numbers kindAt 0; len = getD numbers boundLenAt 0; key = bound };
   mode = modeOf (getD numbers modeAt 0);
   state = stateOf (getD numbers stateAt 0);
+  handed = record { depth = getD numbers lastDepthAt 0; count = getD numbers countAt 0 };
 }
 
 -- The three lengths of a record.

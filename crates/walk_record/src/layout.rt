@@ -23,6 +23,10 @@ pub const STATE: usize = 10;
 
 pub const MODE: usize = 11;
 
-pub const STACK: usize = 12;
+pub const LAST_DEPTH: usize = 12;
 
-pub const NUMBERS: usize = 74;
+pub const COUNT: usize = 13;
+
+pub const STACK: usize = 14;
+
+pub const NUMBERS: usize = 76;

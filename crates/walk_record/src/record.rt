@@ -1,15 +1,16 @@
-// A walk and the record in which it crosses to C: 74 numbers and two buffers of 256 bytes, which the caller lends.
+// A walk and the record in which it crosses to C: 76 numbers and two buffers of 256 bytes, which the caller lends.
 use crate::layout;
 use cursor::cursor_key::CursorKey;
 use cursor::range_bound::RangeBound;
 use cursor::range_bound::StartMode;
 use node::permuter::Position;
+use walk::scan_state::HandedOut;
 use walk::scan_state::LayerContext;
 use walk::scan_state::Walk;
 use walk::scan_state::WalkState;
 ghost use Rattle.base.specs.Kit.{_≡_, _≤_, length, getD};
 ghost use Rattle.walk_record.specs.Record.{kindAt, numbersIn, modeNumber, modeOf, stateNumber, stateOf, numbersOf, entries, readWalk, sized, isRecord};
-ghost use Rattle.walk_record.specs.CodeLaid.{headOf, readCursor, readBound};
+ghost use Rattle.walk_record.specs.CodeLaid.{headOf, readCursor, readBound, readHanded};
 
 // Whether the three lengths are a record's.
 pub fn is_sized(numbers: usize, buf: usize, bound: usize) -> bool
@@ -99,6 +100,7 @@ fn head_of(walk: Walk) -> [u64; layout::NUMBERS]
     let b = walk.bound;
     let state = walk.state;
     let mode = walk.mode;
+    let h = walk.handed;
     let mut n = [0u64; layout::NUMBERS];
     n[layout::IMAGE_LEN] = walk.image_len as u64;
     n[layout::ROOT] = walk.root;
@@ -112,6 +114,8 @@ fn head_of(walk: Walk) -> [u64; layout::NUMBERS]
     n[layout::BOUND_LEN] = b.len as u64;
     n[layout::STATE] = state_number(state);
     n[layout::MODE] = mode_number(mode);
+    n[layout::LAST_DEPTH] = h.depth as u64;
+    n[layout::COUNT] = h.count as u64;
     n
 }
 
@@ -230,6 +234,17 @@ fn read_bound(numbers: &[u64], bound: &[u8]) -> RangeBound
     }
 }
 
+// What a record's walk has handed out.
+pub fn read_handed(numbers: &[u64]) -> HandedOut
+    requires { ⌜ length (now numbers) ≡ numbersIn ⌝ }
+    ensures { λ r. ⌜ r ≡ readHanded (now (numbers .entry)) ⌝ }
+{
+    HandedOut {
+        depth: numbers[layout::LAST_DEPTH] as usize,
+        count: numbers[layout::COUNT] as usize,
+    }
+}
+
 // The walk of a record.
 pub fn read_walk(numbers: &[u64], buf: &[u8], bound: &[u8]) -> Walk
     requires { ⌜ length (now numbers) ≡ numbersIn ⌝ }
@@ -249,5 +264,6 @@ pub fn read_walk(numbers: &[u64], buf: &[u8], bound: &[u8]) -> Walk
         bound: read_bound(numbers, bound),
         mode: mode_of(numbers[layout::MODE]),
         state: state_of(numbers[layout::STATE]),
+        handed: read_handed(numbers),
     }
 }

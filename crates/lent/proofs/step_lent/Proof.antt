@@ -113,12 +113,12 @@ module _ {M : Type 1} (𝓤 : URA M) (H : Heap 𝓤) (A : Atoms 𝓤) (W : Given
   said : (r : Stepped) → ent 𝓤 (ensured 𝓤 H A by-value.ended (by-value.clauses 𝓤 H A at-mem run) (κ′, tt) (h, (s, tt)) tt r) (fact 𝓤 (r ≡ found))
   said r = exE 𝓤 _ (λ ws. snd∗ 𝓤 (sem 𝓤 H A (lasts by-value.ended (κ′, tt) (h, (s, tt)) ws)) (fact 𝓤 (r ≡ found)))
 
-  -- what is known of the parts of what `step` returned: the walk, and the answer with the moves
+  -- what is known of the parts of what `step` returned: the walk, and the rest
   made-walk : (r : Stepped) (u : Val) → Is S.the-row r (u ∷ []) → Is T.the-row (r .walk) (mach (r .walk) ∷ [])
-  made-walk r u is = LL.owed S.the-type S′.the-laws r (u ∷ []) is .1 .1 .0
+  made-walk r u is = LL.owed S.the-type S′.the-laws r (u ∷ []) is .1 .1 .1 .0
 
   made-res : (r : Stepped) (u : Val) → Is S.the-row r (u ∷ []) → Is P.the-row (answerOf r) (LL.vals P.the-type P′.the-laws (answerOf r))
-  made-res r u is = LL.owes P.the-type P′.the-laws (answerOf r) (LL.owed S.the-type S′.the-laws r (u ∷ []) is .0, (LL.owed S.the-type S′.the-laws r (u ∷ []) is .1 .0, tt))
+  made-res r u is = LL.owes P.the-type P′.the-laws (answerOf r) (let owed = LL.owed S.the-type S′.the-laws r (u ∷ []) is in (owed .0, (owed .1 .0, (owed .1 .1 .0, tt))))
 
   -- the end: the borrow is closed at the step's walk, and the answer is the step's
   exits : (r : Stepped) → r ≡ found → Is P.the-row (answerOf r) (LL.vals P.the-type P′.the-laws (answerOf r))
@@ -150,8 +150,8 @@ module _ {M : Type 1} (𝓤 : URA M) (H : Heap 𝓤) (A : Atoms 𝓤) (W : Given
         -- [what the result owns; image's token; what image owns; the walk's cell; what a Walk owns; the open borrow; obs; auth; _4; …; room for _3; …; _2; …; _1; …; room for _0; …]
         peeks ! S.the-row (Is S.the-row) (shows 𝓤 H A S.the-row) r (u ∷ []) (λ is.
         land ! (from ! (stop !)) (init ! 10 refl (LL.lawful S.the-type S′.the-laws 𝓤 H A W .typed r _ is .0)) $ rewrite ! 10 (λ (w : Val). ‵ (fat fullShare S′.mir l₃ 0 w)) (ap only (LL.tells S.the-type S′.the-laws r _ is)) refl $
-        assigns ! (of-opd ! (load ! (from ! (fld ! refl (stop !))) (look-in ! 10 (sub ! 2 refl (whole !))))) (from ! (hop ! (look ! 14 refl) (stop !))) (store ! 3 refl (LL.lawful T.the-type T′.the-laws 𝓤 H A W .typed (r .walk) _ (made-walk r u is) .0)) $
-        assigns ! (agg ! (and-then ! (load ! (from ! (fld ! refl (stop !))) (look-in ! 10 (sub ! 0 refl (whole !)))) (and-then ! (load ! (from ! (fld ! refl (stop !))) (look-in ! 10 (sub ! 1 refl (whole !)))) (no-more !)))) (from ! (stop !)) (init ! 16 refl (LL.lawful P.the-type P′.the-laws 𝓤 H A W .typed (answerOf r) _ (made-res r u is) .0)) $
+        assigns ! (of-opd ! (load ! (from ! (fld ! refl (stop !))) (look-in ! 10 (sub ! 3 refl (whole !))))) (from ! (hop ! (look ! 14 refl) (stop !))) (store ! 3 refl (LL.lawful T.the-type T′.the-laws 𝓤 H A W .typed (r .walk) _ (made-walk r u is) .0)) $
+        assigns ! (agg ! (and-then ! (load ! (from ! (fld ! refl (stop !))) (look-in ! 10 (sub ! 0 refl (whole !)))) (and-then ! (load ! (from ! (fld ! refl (stop !))) (look-in ! 10 (sub ! 1 refl (whole !)))) (and-then ! (load ! (from ! (fld ! refl (stop !))) (look-in ! 10 (sub ! 2 refl (whole !)))) (no-more !))))) (from ! (stop !)) (init ! 16 refl (LL.lawful P.the-type P′.the-laws 𝓤 H A W .typed (answerOf r) _ (made-res r u is) .0)) $
         -- the borrow is closed at the walk that `step` returned
         owned ! T.the-row (Is T.the-row) (LL.makes T.the-type T′.the-plain 𝓤 H A) (r .walk) _ (made-walk r u is) $
         move ! (4 ∷ []) $ use1 W (‵ (cellAt fullShare (T.the-row .mir) (mach (r .walk) ∷ []) b o)) (W .laws .at-raw fullShare T′.mir b o (mach (r .walk))) $ move ! (0 ∷ 1 ∷ 6 ∷ 7 ∷ 8 ∷ []) $ closes ! tt T.the-row (r .walk) (mach (r .walk) ∷ []) b o $

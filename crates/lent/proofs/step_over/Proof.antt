@@ -135,7 +135,7 @@ module _ {M : Type 1} (𝓤 : URA M) (H : Heap 𝓤) (A : Atoms 𝓤) (W : Given
 
   -- what is known of the answer and the walk put together
   made : (r : StepAnswer) (w : Walk) (u : Val) → Is P.the-row r (u ∷ []) → Is T.the-row w (mach w ∷ []) → Is S.the-row (steppedOf r w) (LL.vals S.the-type S′.the-laws (steppedOf r w))
-  made r w u is gw = LL.owes S.the-type S′.the-laws (steppedOf r w) (LL.owed P.the-type P′.the-laws r (u ∷ []) is .0, (LL.owed P.the-type P′.the-laws r (u ∷ []) is .1 .0, (gw, tt)))
+  made r w u is gw = LL.owes S.the-type S′.the-laws (steppedOf r w) (let owed = LL.owed P.the-type P′.the-laws r (u ∷ []) is in (owed .0, (owed .1 .0, (owed .1 .1 .0, (gw, tt)))))
 
   -- the end: the answer and the walk are the step's
   exits : (r : StepAnswer) (w : Walk) → Says r w → Is S.the-row (steppedOf r w) (LL.vals S.the-type S′.the-laws (steppedOf r w)) → ent 𝓤 (⋆ 𝓤 H A ((‵ (flft κ q) ⊛ ‵ ftrue) ∷ ‵ Own ∷ [])) (Post (LL.val S.the-type S′.the-laws (steppedOf r w)))
@@ -169,7 +169,7 @@ module _ {M : Type 1} (𝓤 : URA M) (H : Heap 𝓤) (A : Atoms 𝓤) (W : Given
         use1 W (given (Is T.the-row (ws .0) (mach (ws .0) ∷ [])) (‵ (fat fullShare T′.mir l₃ 0 (mach (ws .0))))) (taken 𝓤 H A W (ws .0) l₃) $ learn ! (λ gw.
         -- [_3; image's token; what the answer owns; …; what image owns; _6; …; _5; …; _4; …; (_3's end); _2; …; _1; …; room for _0; …]
         assigns ! (of-opd ! (load ! (from ! (stop !)) (look ! 0 refl))) (from ! (stop !)) (init ! 5 refl (LL.lawful T.the-type T′.the-laws 𝓤 H A W .typed (ws .0) _ gw .0)) $
-        assigns ! (agg ! (and-then ! (load ! (from ! (fld ! refl (stop !))) (look-in ! 9 (sub ! 0 refl (whole !)))) (and-then ! (load ! (from ! (fld ! refl (stop !))) (look-in ! 9 (sub ! 1 refl (whole !)))) (and-then ! (load ! (from ! (stop !)) (look ! 5 refl)) (no-more !))))) (from ! (stop !))
+        assigns ! (agg ! (and-then ! (load ! (from ! (fld ! refl (stop !))) (look-in ! 9 (sub ! 0 refl (whole !)))) (and-then ! (load ! (from ! (fld ! refl (stop !))) (look-in ! 9 (sub ! 1 refl (whole !)))) (and-then ! (load ! (from ! (fld ! refl (stop !))) (look-in ! 9 (sub ! 2 refl (whole !)))) (and-then ! (load ! (from ! (stop !)) (look ! 5 refl)) (no-more !)))))) (from ! (stop !))
         (init ! 16 refl (LL.lawful S.the-type S′.the-laws 𝓤 H A W .typed (steppedOf r (ws .0)) _ (made r (ws .0) u is gw) .0)) $
         returns ! (look ! 16 refl) $ forget ! 0 refl $ forget ! 5 refl $ forget ! 7 refl $ forget ! 9 refl $ forget ! 12 refl $ forget ! 14 refl $ forget ! 16 refl $
         move ! (16 ∷ 17 ∷ []) $ free1 ! $ move ! (14 ∷ 15 ∷ []) $ free1 ! $ move ! (12 ∷ 13 ∷ []) $ free1 ! $ move ! (0 ∷ 11 ∷ []) $ free1 ! $ move ! (8 ∷ 9 ∷ []) $ free1 ! $ move ! (6 ∷ 7 ∷ []) $ free1 ! $ move ! (4 ∷ 5 ∷ []) $ free1 ! $ free0 ! $

@@ -1,6 +1,6 @@
 -- `in_place::is_numbers_ok` meets its contract: the tests stand in the order of the definition; where the fourth stands, the offset
 -- is 248 at most.
-use Rattle.base.specs.Kit.{needs}
+use Rattle.base.specs.Kit.{needs, eq-eqb, lt-leb, le-leb}
 use Rattle.base.proofs.Tests.{tests}
 use Rattle.walk.specs.Walk.{walkOk}
 use Rattle.walk.proofs.NumberLaws.{end-past, end-within}
@@ -29,4 +29,29 @@ is-numbers-ok-spec =
     (λ c. search needs)
     (λ c. search (tests, c .before .before .before .before .before .before .before .before, end-within _ _ _ (c .before .before .before .before .before .before .before .if2 .left) (c .before .before .before .before .before .before .if3 .left) (c .before .before .before .before .if4 .left)))
     (λ c. search needs)
-    (λ c. search (tests, c .before .before .before .before .before .before .before .before .before, c .before .before .before .before .before .before .before .before, end-within _ _ _ (c .before .before .before .before .before .before .before .before .if2 .left) (c .before .before .before .before .before .before .before .if3 .left) (c .before .before .before .before .before .if4 .left))))
+    (λ c.
+    let e6 = c .before .before in
+    let e5 = e6 .before .before in
+    let e4 = e5 .before .before in
+    let e3 = e4 .before .before in
+    let e2 = e3 .before in
+    rw (eq-eqb _ _ (e2 .before .if1 .left), le-leb _ _ (e2 .if2 .left), eq-eqb _ _ (e3 .if3 .left), end-within _ _ _ (e2 .if2 .left) (e3 .if3 .left) (e4 .if4 .left), le-leb _ _ (e5 .if5 .left), le-leb _ _ (e6 .if6 .left), lt-leb _ _ (c .if7 .taken)))
+    (λ c. search needs)
+    (λ c.
+    let e7 = c .before .before in
+    let e6 = e7 .before .before in
+    let e5 = e6 .before .before in
+    let e4 = e5 .before .before in
+    let e3 = e4 .before .before in
+    let e2 = e3 .before in
+    rw (eq-eqb _ _ (e2 .before .if1 .left), le-leb _ _ (e2 .if2 .left), eq-eqb _ _ (e3 .if3 .left), end-within _ _ _ (e2 .if2 .left) (e3 .if3 .left) (e4 .if4 .left), le-leb _ _ (e5 .if5 .left), le-leb _ _ (e6 .if6 .left), le-leb _ _ (e7 .if7 .left), lt-leb _ _ (c .if8 .taken)))
+    (λ c. search needs)
+    (λ c.
+    let e8 = c .before in
+    let e7 = e8 .before .before in
+    let e6 = e7 .before .before in
+    let e5 = e6 .before .before in
+    let e4 = e5 .before .before in
+    let e3 = e4 .before .before in
+    let e2 = e3 .before in
+    rw (eq-eqb _ _ (e2 .before .if1 .left), le-leb _ _ (e2 .if2 .left), eq-eqb _ _ (e3 .if3 .left), end-within _ _ _ (e2 .if2 .left) (e3 .if3 .left) (e4 .if4 .left), le-leb _ _ (e5 .if5 .left), le-leb _ _ (e6 .if6 .left), le-leb _ _ (e7 .if7 .left), le-leb _ _ (e8 .if8 .left))))

@@ -1,5 +1,5 @@
--- `in_place::put_key` meets its contract: the four stores are the definition's.
-use Rattle.base.specs.Kit.{needs}
+-- `in_place::put_key` meets its contract: the six stores are the definition's.
+use Rattle.base.specs.Kit.{arith, length-set, needs}
 use Rattle.record_step.specs.CodeInPlace.{keyNumbers}
 use Rattle.record_step.proofs.in_place.put_key.Statement.{statement}
 use Rattle.record_step.proofs.in_place.put_key.Tie as tie
@@ -19,5 +19,7 @@ put-key-spec =
     (λ c. search needs)
     (λ c κs. search needs)
     (λ c. search needs)
+    (λ c. simp length-set (omega arith))
+    (λ c. simp length-set (omega arith))
     (λ c. search needs)
     returns)

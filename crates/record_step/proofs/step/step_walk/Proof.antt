@@ -1,6 +1,5 @@
 -- `step_walk` meets its contract: the number of the step decides.
 use Rattle.base.specs.Kit.{_∙_, needs}
-use Rattle.base.proofs.Needs.{six}
 use Rattle.walk_record.proofs.Told.{record-told}
 use Rattle.record_step.proofs.InPlace.{read-tested}
 use Rattle.record_step.proofs.Steps.{declined, taken}
@@ -40,12 +39,18 @@ returns-2 c =
 pub step-walk-spec : {M : Type 1} → statement M
 step-walk-spec =
     tie.close
-    (six (tie.spec
+    (tie.spec
     read-walk-requires
     step-of-requires
     (λ c κs. search needs)
     (λ c. search needs)
     (λ c. search needs)
     returns
-    put-moved-requires) (search needs)
+    put-moved-requires
+    (λ c κs. search needs)
+    (λ c. search needs)
+    (λ c κs. let fits = c .before .before .before .before .before .before .before .before .before .before .before .before .before .before .before .before .before .before .before .before .before .pre .0 in search needs)
+    (λ c. search needs)
+    (λ c. search needs)
+    (λ c. search needs)
     returns-2)

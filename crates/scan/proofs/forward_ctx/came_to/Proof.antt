@@ -6,4 +6,4 @@ use Rattle.scan.proofs.forward_ctx.came_to.Tie as tie
 
 pub came-to-spec : {M : Type 1} → statement M
 unfolding finished
-came-to-spec = tie.close (tie.spec (λ c κs. search needs) (λ c. rw (c .stepped .ensures)))
+came-to-spec = tie.close (tie.spec (λ c κs. c .pre) (λ c. rw (c .stepped .ensures)))

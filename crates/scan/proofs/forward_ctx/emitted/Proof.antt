@@ -9,8 +9,8 @@ pub emitted-spec : {M : Type 1} → statement M
 unfolding finished pick
 emitted-spec =
     tie.close
-    (tie.spec (λ c κs. search needs)
+    (tie.spec (λ c κs. c .before .pre .0)
     (λ c. rw (c .before .if1 .taken) (c .came-to .ensures))
-    (λ c κs. c .before .pre)
-    (λ c κs. search needs)
+    (λ c κs. c .before .pre .1)
+    (λ c κs. c .before .before .pre .0)
     (λ c. rw (c .before .before .if1 .left, c .stepped .ensures, c .before .key-out .ensures)))

@@ -1,5 +1,5 @@
 -- Each answer of the fast path has its law; the loop makes every other step.
-use Rattle.base.specs.Kit.{_+_, _≤_, _≡_, sym, _∙_, subst, true, arith, needs, length}
+use Rattle.base.specs.Kit.{_+_, _^_, _≤_, _<_, _≡_, sym, _∙_, subst, true, arith, needs, length}
 use Rattle.base.proofs.Choice.{found-so, found-not}
 use Rattle.scan.specs.Types.{ScanCtx, At}
 use Rattle.search.specs.Traversal.{leafThere}
@@ -18,6 +18,7 @@ use Rattle.scan.proofs.step.step_next.Reads as reads
 use Rattle.scan.proofs.step.step_next.Lts as lts
 use Rattle.search.proofs.traversal.is_leaf_there.Reads as is-leaf-there-reads
 use Rattle.scan.proofs.forward_ctx.gone_number.Reads as gone-number-reads
+use Rattle.scan.proofs.forward_ctx.declined.Reads as declined-reads
 use Rattle.scan.proofs.scan_ctx.ctx_of.Reads as ctx-of-reads
 use Rattle.moves.proofs.fast_path.fast_slot.Reads as fast-slot-reads
 use Rattle.scan.proofs.forward_ctx.advance_no_alloc.Reads as advance-no-alloc-reads
@@ -28,7 +29,7 @@ use Rattle.moves.proofs.context.go_on.Reads as go-on-reads
 use Rattle.scan.proofs.forward_ctx.stepped.Reads as stepped-reads
 
 abbrev Readings : lts.Claims
-Readings = (is-leaf-there-reads.Asked, is-leaf-there-reads.Learnt, gone-number-reads.Asked, gone-number-reads.Learnt, ctx-of-reads.Asked, ctx-of-reads.Learnt, fast-slot-reads.Asked, fast-slot-reads.Learnt, advance-no-alloc-reads.Asked, advance-no-alloc-reads.Learnt, part-of-reads.Asked, part-of-reads.Learnt, store-key-reads.Asked, store-key-reads.Learnt, hand-out-reads.Asked, hand-out-reads.Learnt, go-on-reads.Asked, go-on-reads.Learnt, stepped-reads.Asked, stepped-reads.Learnt)
+Readings = (is-leaf-there-reads.Asked, is-leaf-there-reads.Learnt, gone-number-reads.Asked, gone-number-reads.Learnt, declined-reads.Asked, declined-reads.Learnt, ctx-of-reads.Asked, ctx-of-reads.Learnt, fast-slot-reads.Asked, fast-slot-reads.Learnt, advance-no-alloc-reads.Asked, advance-no-alloc-reads.Learnt, part-of-reads.Asked, part-of-reads.Learnt, store-key-reads.Asked, store-key-reads.Learnt, hand-out-reads.Asked, hand-out-reads.Learnt, go-on-reads.Asked, go-on-reads.Learnt, stepped-reads.Asked, stepped-reads.Learnt)
 
 -- the walk's two buffers have 256 bytes
 key-long : (c : lts.Start Readings reads.Pre reads.Post) → length (c .args .t1 .bound .key) ≡ 256
@@ -36,6 +37,10 @@ key-long c = search needs
 
 buf-long : (c : lts.Start Readings reads.Pre reads.Post) → length (c .args .t1 .cursor .buf) ≡ 256
 buf-long c = search needs
+
+-- and its count can be raised
+room : (c : lts.Start Readings reads.Pre reads.Post) → c .args .t1 .handed .count < 2 ^ 63
+room c = let f = walk-fits _ _ (c .pre .0) .count-fits in search needs
 
 -- past the test of the leaf: it stands there, and the numbers are in range
 module _ (c : lts.After-ctx-of Readings reads.Pre reads.Post) where
@@ -67,8 +72,8 @@ module _ (c : lts.After-fast Readings reads.Pre reads.Post) where
 
 returns : tie.Need-returns
 returns c =
-    let test = c .before .before in
-    gone _ _ (test .before .before .pre .1) (found-not _ _ (test .is-leaf-there .ensures) (c .before .if1 .taken)) _ (c .gone-number .ensures)
+    let test = c .before .before .before in
+    c .declined .ensures ∙ gone _ _ (test .before .before .pre .1) (found-not _ _ (test .is-leaf-there .ensures) (c .before .before .if1 .taken)) _ (c .before .gone-number .ensures)
 
 advance-no-alloc-requires : tie.Need-advance-no-alloc-requires
 advance-no-alloc-requires c κs =
@@ -123,6 +128,12 @@ go-on-requires-2 c κs =
     let made = c .before .before .before .before .before .before .before .before .before .before .before .before .before .before .before .before .before .before .before in
     rw (made .ctx-of .ensures) (ranged made .position)
 
+stepped-requires : tie.Need-stepped-requires
+stepped-requires c κs = room (start (c .before .before .before .before .before .before .before .before .before .before .before .before .before .before .before .before .before .before .before .before .before .before))
+
+stepped-requires-2 : tie.Need-stepped-requires-2
+stepped-requires-2 c κs = room (start (c .before .before .before .before .before .before .before .before .before .before .before .before .before .before .before .before .before .before .before .before .before))
+
 returns-2 : tie.Need-returns-2
 returns-2 c = search needs
 
@@ -150,6 +161,7 @@ step-next-spec =
     (tie.spec
     (λ c κs. search needs)
     (λ c κs. search needs)
+    (λ c κs. search needs)
     returns
     (λ c κs. search needs)
     (λ c κs. (leaf-in (c .before .before), low (c .before .before)))
@@ -164,10 +176,10 @@ step-next-spec =
     (λ c. search needs)
     add-len
     go-on-requires
-    (λ c κs. search needs)
+    stepped-requires
     (λ c. search needs)
     go-on-requires-2
-    (λ c κs. search needs)
+    stepped-requires-2
     returns-2
     returns-3
     returns-4)

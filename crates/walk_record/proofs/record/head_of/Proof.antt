@@ -1,6 +1,6 @@
 -- `record::head_of` meets its contract: the stores into zeroes are the definition written out.
 use Rattle.base.specs.Kit.{needs}
-use Rattle.base.proofs.Needs.{five, ten}
+use Rattle.base.proofs.Needs.{seven, ten}
 use Rattle.walk_record.specs.CodeLaid.{headOf}
 use Rattle.walk_record.proofs.record.head_of.Statement.{statement}
 use Rattle.walk_record.proofs.record.head_of.Tie as tie
@@ -12,5 +12,5 @@ returns c = rw (c .mode-number .ensures, c .before .state-number .ensures)
 pub head-of-spec : {M : Type 1} → statement M
 head-of-spec =
     tie.close
-    (five (ten tie.spec (search needs)) (search needs)
+    (seven (ten tie.spec (search needs)) (search needs)
     returns)
