@@ -19,7 +19,7 @@ fn list(image: &[u8]) -> Result<(), Declined> {
     }
     println!("moves {moves}");
     // The walk has counted its keys, and the tally counts those above the empty one; a step over bytes of another length is declined.
-    assert_eq!(walk.step(image)?.count, keys.len() as u64);
+    assert_eq!(walk.count(), keys.len() as u64);
     let above = keys.iter().filter(|k| !k.is_empty()).count() as u64;
     assert_eq!(tally(image, b"", Bound::Unbounded), Ok(above));
     assert_eq!(walk.step(&image[1..]), Err(Declined(21)));

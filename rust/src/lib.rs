@@ -172,8 +172,10 @@ pub struct Step {
     pub count: u64,
 }
 
-/// The numbers of a walk's record; `include/punchbronze.h` says where each stands.
+/// The numbers of a walk's record, and two of their places; `include/punchbronze.h` says where each stands.
 const NUMBERS: usize = 76;
+const LAST_DEPTH: usize = 12;
+const COUNT: usize = 13;
 
 /// A walk between calls, as the record in which it crosses to the library.
 #[derive(Clone)]
@@ -242,6 +244,16 @@ impl Walk {
         let [is_key, len, value, moves, depth, count] = out;
         let found = if is_key == 1 { Some(Found { len: len as usize, value }) } else { None };
         Ok(Step { found, moves, depth: depth as usize, count })
+    }
+
+    /// The layer depth at which the last key was found, 0 before the first.
+    pub fn depth(&self) -> usize {
+        self.numbers[LAST_DEPTH] as usize
+    }
+
+    /// How many keys have been handed out.
+    pub fn count(&self) -> u64 {
+        self.numbers[COUNT]
     }
 
     /// The bytes of the key that the last step found.
