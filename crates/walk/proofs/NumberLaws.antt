@@ -1,5 +1,5 @@
--- The test of a walk's numbers: what the code's fourth test says, and what a walk that passes has.
-use Rattle.base.specs.Kit.{_≡_, true, false, and-eq-true-iff, ℕ, _+_, _*_, _-_, _≤_, _<_, arith, leb, leb-true, eqb-true, eq-eqb, lt-leb, le-leb}
+-- The test of a walk's numbers: what the code's fourth test says, what is left behind the sixth, and what a walk that passes has.
+use Rattle.base.specs.Kit.{_≡_, true, false, _&&_, and-eq-true-iff, ℕ, _+_, _*_, _-_, _≤_, _<_, arith, leb, leb-true, eqb-true, eq-eqb, lt-leb, le-leb}
 use Rattle.walk.specs.Types.{Walk}
 use Rattle.walk.specs.Walk.{walkOk}
 
@@ -10,6 +10,21 @@ module _ (offset len depth : ℕ) (d : depth ≤ 31) (o : offset ≡ 8 * depth) 
 
   pub end-within : len ≤ 256 - offset → leb (offset + len) 256 ≡ true
   end-within h = le-leb (offset + len) 256 (omega arith)
+
+-- what is left of the test where the code's first six are passed
+pub six-passed : (w : Walk) (n : ℕ) → w .«image_len» ≡ n → w .depth ≤ 31 → w .cursor .offset ≡ 8 * w .depth → w .cursor .len ≤ 256 - w .cursor .offset
+    → w .position .0 ≤ 15 → w .bound .kind ≤ 2
+    → walkOk w n ≡ (leb (w .bound .len) 256 && (leb (w .handed .depth) 31 && leb (w .handed .count) n))
+unfolding walkOk
+six-passed w n i d o l p k =
+    rw (
+      eq-eqb (w .«image_len») n i,
+      le-leb (w .depth) 31 d,
+      eq-eqb (w .cursor .offset) (8 * w .depth) o,
+      end-within (w .cursor .offset) (w .cursor .len) (w .depth) d o l,
+      le-leb (w .position .0) 15 p,
+      le-leb (w .bound .kind) 2 k,
+    )
 
 -- 01's number 21 is not met
 pub record Ok (w : Walk) (n : ℕ) : Type 0 where
