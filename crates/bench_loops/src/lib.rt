@@ -2,6 +2,8 @@
 //
 // Interface: `timed_walk`, `timed_count` and `timed_bound`, which take anything and have no `requires`. The two forms of the step have a loop
 // each: a choice inside one loop would copy every step's answer once more, and be timed with it.
+#![tactic(auto)]
+
 ghost use Rattle.base.specs.Kit.{◌≡◌, [], ◌/◌, length};
 ghost use Rattle.cursor.specs.declared.range_bound.StartMode.TheVariants.{Above};
 ghost use Rattle.walk.specs.Placing.{place};

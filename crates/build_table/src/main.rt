@@ -2,6 +2,8 @@
 // length of the output, four bytes. The output's bytes are all set to a mark before. A line has the request's name, the number, the
 // image's length, the 64-bit FNV-1a of the whole output after it, which fixes what is written and what is not, and for an image what the
 // check says of it. In form 1 the image's bytes follow in hex, and its sheet.
+#![tactic(auto)]
+
 use builder::Built;
 use key::first;
 use node::le;

@@ -3,6 +3,8 @@
 // Interface: `build`, which takes any two byte slices and has no `requires`, and its answer `Built`. It goes over the sheet three times: to
 // find its faults, to count the image's bytes, and to write them; so nothing is written where it declines, and it needs no memory but
 // what it is lent.
+#![tactic(auto)]
+
 ghost use Rattle.base.specs.Kit.{◌≡◌, ◌+◌, ◌≤◌, length, drop};
 ghost use Rattle.layering.specs.Accepted.{end_n};
 ghost use Rattle.reading.specs.Pairs.{pairs_in};
@@ -17,7 +19,7 @@ use layers_out::write_layer;
 use reading::read_sheet;
 
 // The builder's answer: the length of the image that was written, or the number of what declines the sheet.
-#[derive(Drop)]
+#[derive(Clone, Copy)]
 pub enum Built {
     Image(usize),
     Declined(u64),

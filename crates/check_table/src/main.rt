@@ -1,5 +1,7 @@
 // The check, executed: 01's limits on an image's length, and the table of tools/images.py, in which each image is in order or has
 // one fault.
+#![tactic(auto)]
+
 use node::trailer;
 use requests::{item, put};
 

@@ -12,7 +12,7 @@ use key::Ordering;
 pub const UNSHIFT_SENTINEL_LEN: usize = 9;
 
 // The cursor as a walk keeps it.
-#[derive(Drop)]
+#[derive(Clone, Copy)]
 pub struct CursorKey {
     pub buf: [u8; 256],
     pub offset: usize,
@@ -21,7 +21,7 @@ pub struct CursorKey {
 }
 
 // The cursor without its buffer: where the layer's ikey stands in it, the key's length from there on, and the ikey.
-#[derive(Drop)]
+#[derive(Clone, Copy)]
 pub struct CursorPlace {
     pub offset: usize,
     pub len: usize,

@@ -2,5 +2,7 @@
 //
 // Interface: every public function of the two modules. Their `requires` ask what a walk's ranges (01's number 21) give:
 // offset and length within the buffer of 256 bytes.
+#![tactic(auto)]
+
 pub mod cursor_key;
 pub mod range_bound;

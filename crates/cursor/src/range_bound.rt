@@ -5,14 +5,14 @@ ghost use Rattle.cursor.specs.RangeBound.{side_of, tested, contains, bound_of};
 use key::Ordering;
 
 // Where a walk begins: above its cursor, or from it on.
-#[derive(Drop)]
+#[derive(Clone, Copy)]
 pub enum StartMode {
     Above,
     From,
 }
 
 // A bound as a walk keeps it: kind 0 unbounded, 1 included, 2 excluded, and the first `len` bytes of `key`.
-#[derive(Drop)]
+#[derive(Clone, Copy)]
 pub struct RangeBound {
     pub kind: u8,
     pub len: usize,
@@ -20,7 +20,7 @@ pub struct RangeBound {
 }
 
 // On which side of a bound a key lies; the included end is a side of its own.
-#[derive(Drop)]
+#[derive(Clone, Copy)]
 pub enum Side {
     Inside,
     AtEnd,
@@ -28,7 +28,7 @@ pub enum Side {
 }
 
 // The answer of the bound test: the side, and the comparisons it took, of eights and of single bytes.
-#[derive(Drop)]
+#[derive(Clone, Copy)]
 pub struct Tested {
     pub side: Side,
     pub comparisons: usize,

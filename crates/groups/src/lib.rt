@@ -2,6 +2,8 @@
 // lines of the sheet and the number of layers below it, 31 at the top.
 //
 // Interface: `lowered_at`, `group_at` and `layer_size`.
+#![tactic(auto)]
+
 ghost use Rattle.base.specs.Kit.{◌≡◌, ◌+◌, ◌*◌, ◌-◌, ◌≤◌, ◌<◌, suc, min};
 ghost use Rattle.layering.specs.Accepted.{end_n, end_s};
 ghost use Rattle.building.specs.Shape.{long_slots, layer_of};
@@ -13,7 +15,7 @@ use key::{ikey_of, part_of};
 use reading::station_at;
 
 // A station line as a layer has it: the ikey and the length of what the layer has of its key, the value, and the place behind the line.
-#[derive(Drop)]
+#[derive(Clone, Copy)]
 pub struct Lowered {
     pub ikey: u64,
     pub len: usize,
@@ -23,7 +25,7 @@ pub struct Lowered {
 
 // The pairs of one ikey: how many keys end in the layer, how many go on below it, the first line of those that go on, and the line
 // behind the group.
-#[derive(Drop)]
+#[derive(Clone, Copy)]
 pub struct Group {
     pub shorts: usize,
     pub longs: usize,
@@ -107,7 +109,7 @@ fn grown(g: Group, len: usize, next: usize) -> Group
 
 // How far the size of a layer is counted: its leaves, the room in the last of them, and the bytes of all of them with their suffixes
 // and the layers below.
-#[derive(Drop)]
+#[derive(Clone, Copy)]
 pub struct Tally {
     pub leaves: usize,
     pub room: usize,

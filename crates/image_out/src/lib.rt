@@ -3,6 +3,8 @@
 //
 // Interface: every public function. Each asks that the output has room for what it writes. A leaf's and an internode's numbers are
 // collected in a record by value, `LeafSlots` and `Children`, and written at once.
+#![tactic(auto)]
+
 ghost use Rattle.base.specs.Kit.{List, [], ◌∷◌, ◌++◌, ◌≡◌, ℕ, ◌+◌, ◌*◌, ◌/◌, ◌≤◌, ◌<◌, length, replicate};
 ghost use Rattle.base.specs.Pick.{pick};
 ghost use Rattle.layering.specs.Tree.{Fields};
@@ -14,7 +16,7 @@ ghost use Rattle.image_out.specs.CodeRows.{slots_of, HoldsSlots, fresh_head, chi
 use key::copy_in;
 
 // A leaf's slots so far: a row for each field, zero past them; the live mask, and the next slot's bit of it; how many there are.
-#[derive(Drop)]
+#[derive(Clone, Copy)]
 pub struct LeafSlots {
     pub ikeys: [u64; 15],
     pub lens: [u8; 15],
@@ -26,7 +28,7 @@ pub struct LeafSlots {
 }
 
 // An internode's separators and children so far, zero past them; how many separators there are.
-#[derive(Drop)]
+#[derive(Clone, Copy)]
 pub struct Children {
     pub separators: [u64; 15],
     pub nodes: [u64; 16],

@@ -1,6 +1,8 @@
 // For each request of the input (tools/examples.py) its name, and a screen of its image that "indents stations by layer" (02 [13]): the
 // live keys by steps, each with the count that its step gives and two spaces for each layer of its depth, and at the end what the none
 // gives.
+#![tactic(auto)]
+
 use cursor::range_bound::StartMode;
 use key::first;
 use requests::{item, line, put};

@@ -2,6 +2,8 @@
 //
 // Interface: every public function here. `part_of`, `copy_in`, `copy_words_in` and `padded` ask that what they read or
 // fill is long enough; each result is fixed by a definition of specs/ or of the library.
+#![tactic(auto)]
+
 ghost use Rattle.base.specs.Kit.{◌≡◌, ◌+◌, ◌≤◌, min, get_or, length, paste, take, drop, replicate};
 ghost use Rattle.key.specs.Order.{order, byte_order};
 ghost use Rattle.key.specs.Comparisons.{compared_by, compared};
@@ -12,7 +14,7 @@ ghost use Rattle.key.specs.CodeWords.{low_first, paste_word};
 use node::le;
 
 // The answer of a comparison.
-#[derive(Drop)]
+#[derive(Clone, Copy)]
 pub enum Ordering {
     Less,
     Equal,
@@ -20,7 +22,7 @@ pub enum Ordering {
 }
 
 // The answer of a comparison by pieces: plain byte order's, and how many pieces were compared.
-#[derive(Drop)]
+#[derive(Clone, Copy)]
 pub struct Compared {
     pub order: Ordering,
     pub comparisons: usize,

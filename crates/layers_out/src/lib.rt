@@ -3,6 +3,8 @@
 // Interface: `write_layer`. Six functions in a cycle: a layer is a first leaf, and internodes over what is written while lines are left; an
 // internode's siblings are subtrees; a subtree is a leaf, or an internode over one that is less high; a leaf is groups of one ikey; a group
 // may have a layer. All that writes one record, or reads one line, stands outside the cycle.
+#![tactic(auto)]
+
 ghost use Rattle.base.specs.Kit.{List, [], ◌≡◌, ◌+◌, ◌*◌, ◌-◌, ◌^◌, ◌≤◌, ◌<◌, min, length};
 ghost use Rattle.layering.specs.Tree.{Fields};
 ghost use Rattle.layering.specs.Accepted.{end_n, end_s};
@@ -21,7 +23,7 @@ use slots_out::Slotted;
 
 // How far a layer has come: the place reached in the output; the next station line, and how many of the layer's lines are left; the layer's
 // last leaf so far, 0 where it has none; and the subtree written last, its record's place and its first ikey.
-#[derive(Drop)]
+#[derive(Clone, Copy)]
 pub struct Run {
     pub at: usize,
     pub line: usize,
@@ -32,7 +34,7 @@ pub struct Run {
 }
 
 // A leaf's parts: the place behind them, the next station line and how many are left, and the slots.
-#[derive(Drop)]
+#[derive(Clone, Copy)]
 pub struct Parts {
     pub at: usize,
     pub line: usize,

@@ -2,6 +2,8 @@
 //
 // `step_lent` and `step_over` take anything and have no `requires`. A function that the borrow checker covers cannot lend a
 // struct, so covered callers and programs reach the lent form through `step_over`.
+#![tactic(auto)]
+
 ghost use Rattle.base.specs.Kit.{◌≡◌};
 ghost use Rattle.scan.specs.Machine.{step};
 ghost use Rattle.lent.specs.Form.{answer_of};
@@ -9,7 +11,7 @@ ghost use Rattle.lent.specs.Form.{answer_of};
 use walk::scan_state::{Answer, HandedOut, Stepped, Walk};
 
 // A step's answer, its moves and what its walk has handed out, without the walk.
-#[derive(Drop)]
+#[derive(Clone, Copy)]
 pub struct StepAnswer {
     pub answer: Answer,
     pub moves: usize,

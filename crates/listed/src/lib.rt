@@ -2,6 +2,8 @@
 //
 // Interface: `open` takes an image, and `next_line` gives the next line of its sheet, until a line has no bytes; both take anything and
 // have no `requires`. All lines together are the sheet: specs/Listed.antt says so, and proofs/Listed.antt has the theorem.
+#![tactic(auto)]
+
 ghost use Rattle.base.specs.Kit.{◌≡◌, take};
 ghost use Rattle.scan.specs.Machine.{step};
 ghost use Rattle.sheet.specs.Sheet.{first_line, pair_line, last_line, refused};
@@ -16,7 +18,7 @@ use walk::answer;
 use walk::scan_state::{Answer, Walk};
 
 // What comes next: the first line, with the trailer's key count; the pairs and the last line; a decline's only line; or nothing.
-#[derive(Drop)]
+#[derive(Clone, Copy)]
 pub enum Stage {
     First(u64),
     Pairs,
@@ -25,7 +27,7 @@ pub enum Stage {
 }
 
 // A listing between its lines: the moves of its walk so far, and the walk.
-#[derive(Drop)]
+#[derive(Clone, Copy)]
 pub struct Listing {
     pub stage: Stage,
     pub moves: usize,
@@ -33,7 +35,7 @@ pub struct Listing {
 }
 
 // A line: the first `len` of its bytes, and the listing after it. The number is a declined step's, and 0 over an image that was opened.
-#[derive(Drop)]
+#[derive(Clone, Copy)]
 pub struct Line {
     pub number: u8,
     pub len: usize,

@@ -9,7 +9,7 @@ use node::permuter::Position;
 use search::helper::Searched;
 
 // What the loop does next: the Rust's states without Emit, and Start, which goes by the walk's start mode.
-#[derive(Drop)]
+#[derive(Clone, Copy)]
 pub enum ScanState {
     Start(StartMode),
     Retry,
@@ -20,7 +20,7 @@ pub enum ScanState {
 
 // `depth` is how many of the stack's entries are in use; `last` is the Rust's last_ikey, `dup` its needs_duplicate_check. State and
 // flag stand apart: side by side they are copied as one word and taken apart in every move.
-#[derive(Drop)]
+#[derive(Clone, Copy)]
 pub struct ScanCtx {
     pub root: u64,
     pub leaf: u64,
@@ -34,7 +34,7 @@ pub struct ScanCtx {
 
 // What a move comes to: the loop goes on; a layer is entered, whose root is given; a key is out, with its value, and it is the last where it
 // is the included end; the walk is at its end; the image cannot be read (22).
-#[derive(Drop)]
+#[derive(Clone, Copy)]
 pub enum Outcome {
     Continue,
     Push(u64),
@@ -44,7 +44,7 @@ pub enum Outcome {
 }
 
 // One move.
-#[derive(Drop)]
+#[derive(Clone, Copy)]
 pub struct Pass {
     pub outcome: Outcome,
     pub ctx: ScanCtx,

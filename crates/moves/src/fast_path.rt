@@ -13,14 +13,14 @@ use node::permuter::{Position, Slot};
 use node::{leaf, permuter};
 
 // The slot whose key is next, or that it takes more than this to tell.
-#[derive(Drop)]
+#[derive(Clone, Copy)]
 pub enum FastSlot {
     At(Slot),
     Slow,
 }
 
 // A key that is stored in cursor and buffer: it is out, with its value, and the last where it is the included end; or it is past the bound.
-#[derive(Drop)]
+#[derive(Clone, Copy)]
 pub enum NextKey {
     Out {
         k: CursorPlace,

@@ -15,7 +15,7 @@ use search::helper::StoredOrder;
 use search::{helper, traversal};
 
 // The duplicate check's answer: the slot is new to the walk; the cursor has come to it or passed it; it cannot be read.
-#[derive(Drop)]
+#[derive(Clone, Copy)]
 pub enum Duplicate {
     No,
     Yes,

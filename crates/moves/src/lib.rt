@@ -4,6 +4,8 @@
 //
 // Interface: `one_move`, the functions of fast_path, `store_key`, and the types of context. A move asks that the key it works on lies within the
 // buffer, which the step's test of a walk's numbers (21) gives; whatever the image says is an answer.
+#![tactic(auto)]
+
 ghost use Rattle.base.specs.Kit.{◌≡◌, true, ◌≤◌};
 ghost use Rattle.search.specs.Traversal.{leaf_there};
 ghost use Rattle.moves.specs.Moves.{handle_down, handle_up, pass_in};

@@ -3,6 +3,3 @@ pub mod LeLaws
 pub mod PermuterLaws
 pub mod KsearchLaws
 pub mod HeadingLaws
-pub mod Result
-pub mod Thin
-pub mod Readers

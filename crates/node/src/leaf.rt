@@ -8,7 +8,7 @@ use crate::le;
 use crate::permuter::Slot;
 
 // Where a suffix stands in the image, and how many bytes it has.
-#[derive(Drop)]
+#[derive(Clone, Copy)]
 pub struct Suffix {
     pub start: usize,
     pub len: usize,
@@ -83,7 +83,7 @@ fn next_at(image: &[u8], at: usize) -> u64
 }
 
 // The image and the leaf's place.
-#[derive(Drop)]
+#[derive(Clone, Copy)]
 pub struct LeafReader<'a> {
     pub image: &'a [u8],
     pub at: usize,
@@ -92,49 +92,49 @@ pub struct LeafReader<'a> {
 impl<'a> LeafReader<'a> {
     pub fn permutation(self) -> u64
         requires { InLeaf self.image.now self.at }
-        ensures { result ≡ permutation_at self.image.now self.at }
+        ensures { result ≡ permutation_at self.entry.image.now self.entry.at }
     {
         permutation_at(self.image, self.at)
     }
 
     pub fn ikey(self, slot: Slot) -> u64
         requires { InSlot self.image.now self.at slot }
-        ensures { result ≡ ikey_at self.image.now self.at slot }
+        ensures { result ≡ ikey_at self.entry.image.now self.entry.at slot }
     {
         ikey_at(self.image, self.at, slot)
     }
 
     pub fn keylenx(self, slot: Slot) -> u8
         requires { InSlot self.image.now self.at slot }
-        ensures { result ≡ keylenx_at self.image.now self.at slot }
+        ensures { result ≡ keylenx_at self.entry.image.now self.entry.at slot }
     {
         keylenx_at(self.image, self.at, slot)
     }
 
     pub fn value(self, slot: Slot) -> u64
         requires { InSlot self.image.now self.at slot }
-        ensures { result ≡ value_at self.image.now self.at slot }
+        ensures { result ≡ value_at self.entry.image.now self.entry.at slot }
     {
         value_at(self.image, self.at, slot)
     }
 
     pub fn ksuf(self, slot: Slot) -> Suffix
         requires { InSlot self.image.now self.at slot }
-        ensures { result ≡ suffix_at self.image.now self.at slot }
+        ensures { result ≡ suffix_at self.entry.image.now self.entry.at slot }
     {
         ksuf_at(self.image, self.at, slot)
     }
 
     pub fn live(self, slot: Slot) -> bool
         requires { InSlot self.image.now self.at slot }
-        ensures { result ≡ live_at self.image.now self.at slot }
+        ensures { result ≡ live_at self.entry.image.now self.entry.at slot }
     {
         live_at(self.image, self.at, slot)
     }
 
     pub fn next(self) -> u64
         requires { InLeaf self.image.now self.at }
-        ensures { result ≡ next_at self.image.now self.at }
+        ensures { result ≡ next_at self.entry.image.now self.entry.at }
     {
         next_at(self.image, self.at)
     }

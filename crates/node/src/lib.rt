@@ -4,6 +4,8 @@
 //
 // Interface: every public function of the modules below. A reader of a field asks that the record it reads lies in the
 // lent slice; each result is fixed by a definition of specs/.
+#![tactic(auto)]
+
 pub mod internode;
 pub mod ksearch;
 pub mod le;

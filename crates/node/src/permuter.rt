@@ -4,11 +4,11 @@ ghost use Rattle.base.specs.Kit.{◌≡◌, ◌<◌};
 ghost use Rattle.node.specs.Permuter.{size_of, slot_at};
 
 // A position in the order of the keys.
-#[derive(Drop)]
+#[derive(Clone, Copy)]
 pub struct Position(pub usize);
 
 // A place in the leaf's arrays. 15 is none of the 15 places.
-#[derive(Drop)]
+#[derive(Clone, Copy)]
 pub struct Slot(pub usize);
 
 pub fn size(permutation: u64) -> usize

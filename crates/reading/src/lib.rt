@@ -2,6 +2,8 @@
 //
 // Interface: `read_sheet` and `station_at`. A reader takes the sheet and a place in it, and answers whether the thing stands there,
 // what it is, and the place behind it; where it does not, all is zero.
+#![tactic(auto)]
+
 ghost use Rattle.base.specs.Kit.{◌≡◌, [], Bool, ◌&&◌, ◌+◌, ◌*◌, ◌≤◌, ◌<◌, eqb, length, drop, set};
 ghost use Rattle.base.specs.Pick.{pick};
 ghost use Rattle.key.specs.Part.{part};
@@ -13,7 +15,7 @@ ghost use Rattle.reading.specs.CodeViews.{number_seen, byte_seen, word_at, no_li
 use key::{Ordering, compare, part_of};
 
 // A decimal that was looked for: its value and the place behind it.
-#[derive(Drop)]
+#[derive(Clone, Copy)]
 pub struct Number {
     pub found: bool,
     pub value: u64,
@@ -21,7 +23,7 @@ pub struct Number {
 }
 
 // One byte of a key, the same way.
-#[derive(Drop)]
+#[derive(Clone, Copy)]
 pub struct Byte {
     pub found: bool,
     pub byte: u8,
@@ -29,7 +31,7 @@ pub struct Byte {
 }
 
 // A key, the same way, with its length.
-#[derive(Drop)]
+#[derive(Clone, Copy)]
 pub struct Text {
     pub found: bool,
     pub len: usize,
@@ -37,14 +39,14 @@ pub struct Text {
 }
 
 // Bytes of a key: how many, and the place behind them.
-#[derive(Drop)]
+#[derive(Clone, Copy)]
 pub struct Run {
     pub len: usize,
     pub next: usize,
 }
 
 // A station's line that was looked for: the key's length, the value, and the place behind the line.
-#[derive(Drop)]
+#[derive(Clone, Copy)]
 pub struct Line {
     pub found: bool,
     pub key_len: usize,
@@ -53,7 +55,7 @@ pub struct Line {
 }
 
 // Station lines that were looked for: whether their keys rise, and the place behind them.
-#[derive(Drop)]
+#[derive(Clone, Copy)]
 pub struct Passed {
     pub found: bool,
     pub rising: bool,
@@ -61,7 +63,7 @@ pub struct Passed {
 }
 
 // What `read_sheet` says of a sheet: the number of its fault; where that is 0, its pairs, and the place of the first station line.
-#[derive(Drop)]
+#[derive(Clone, Copy)]
 pub struct Opened {
     pub number: u64,
     pub count: usize,

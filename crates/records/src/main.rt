@@ -2,6 +2,8 @@
 // alterations, their length in two bytes first: the walk's record is altered by them before the first step, so that walks which no
 // placing gives can be asked for. Every step is printed with its moves, depth and count; where one is declined, with the record after it. A
 // request in form 3 asks for the tally, in form 4 for the check, and nothing else is looked at then but what they take.
+#![tactic(auto)]
+
 use key::first;
 use node::le;
 use requests::{Read, item, line, put, put_hex};

@@ -4,6 +4,8 @@
 //
 // Interface: `read_request` and `field` read, and specs/Requests.antt has what holds of what they hand back, the input itself being free;
 // `put`, `item`, `line`, `put_hex` and `put_pair` print and hand nothing back. None has a `requires`.
+#![tactic(auto)]
+
 ghost use Rattle.base.specs.Kit.{◌≡◌, true, ◌≤◌, length};
 ghost use Rattle.requests.specs.Requests.{Within, Fits};
 
@@ -12,7 +14,7 @@ use node::le;
 use sheet::LINE;
 
 // A number of the input, or its end.
-#[derive(Drop)]
+#[derive(Clone, Copy)]
 pub enum Read {
     Number(usize),
     End,
@@ -20,7 +22,7 @@ pub enum Read {
 
 // A request but for its image, whose length is here; each array begins with as many bytes as its length says. `more`: whether the
 // input had one.
-#[derive(Drop)]
+#[derive(Clone, Copy)]
 pub struct Request {
     pub more: bool,
     pub name: [u8; 256],

@@ -2,6 +2,8 @@
 // name.
 //
 // Interface: `run`, which has no `requires` and hands nothing back.
+#![tactic(auto)]
+
 use cursor::cursor_key::CursorKey;
 use cursor::range_bound;
 use cursor::range_bound::{Side, StartMode};

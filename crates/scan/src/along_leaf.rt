@@ -10,7 +10,7 @@ use search::traversal;
 
 // How the moves along a leaf end: with one that the fast path does not make, and it has tested the leaf; with the bound, whose included end
 // is out or which a key is past; with 22; with no move left.
-#[derive(Drop)]
+#[derive(Clone, Copy)]
 pub enum LeafEnd {
     Slow,
     Bound,
@@ -19,7 +19,7 @@ pub enum LeafEnd {
 }
 
 // The moves along a leaf, and the keys that they hand out.
-#[derive(Drop)]
+#[derive(Clone, Copy)]
 pub struct Along {
     pub end: LeafEnd,
     pub ctx: ScanCtx,

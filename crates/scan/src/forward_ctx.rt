@@ -14,7 +14,7 @@ use walk::handed_out;
 use walk::scan_state::{Answer, LayerContext, Stepped, Walk, WalkState};
 
 // What the loop comes to: how many keys were out, and the step that its moves make.
-#[derive(Drop)]
+#[derive(Clone, Copy)]
 pub struct Advanced {
     pub keys: usize,
     pub stepped: Stepped,

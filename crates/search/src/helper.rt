@@ -13,7 +13,7 @@ use node::{leaf, permuter};
 
 // Where a search by ikey comes to (the Rust's KeyIndexedPosition): a position, with the slot there where its ikey is the
 // one searched for; or a slot of 15 was met.
-#[derive(Drop)]
+#[derive(Clone, Copy)]
 pub enum KeyIndexedPosition {
     NotFound(Position),
     Found(Position, Slot),
@@ -21,7 +21,7 @@ pub enum KeyIndexedPosition {
 }
 
 // The cursor's suffix against what a slot has of one.
-#[derive(Drop)]
+#[derive(Clone, Copy)]
 pub enum StoredOrder {
     Less,
     Equal,
@@ -31,7 +31,7 @@ pub enum StoredOrder {
 }
 
 // Where a search by the whole key comes to.
-#[derive(Drop)]
+#[derive(Clone, Copy)]
 pub enum Searched {
     At(Position),
     Fault,

@@ -2,5 +2,7 @@
 //
 // Interface: every public function of the two modules. Those that read a leaf ask that it lies in the lent image, as
 // `record_at` finds it; whatever else the bytes say is an answer.
+#![tactic(auto)]
+
 pub mod helper;
 pub mod traversal;

@@ -7,7 +7,7 @@ ghost use Rattle.search.specs.Traversal.{readable, record_at, leaf_there, child_
 use node::{internode, ksearch, nodeversion};
 
 // What stands at an offset.
-#[derive(Drop)]
+#[derive(Clone, Copy)]
 pub enum RecordKind {
     Leaf,
     Internode,
@@ -15,7 +15,7 @@ pub enum RecordKind {
 }
 
 // The leaf that a descent comes to.
-#[derive(Drop)]
+#[derive(Clone, Copy)]
 pub enum Reached {
     Leaf(u64),
     Fault,

@@ -2,6 +2,8 @@
 //
 // Interface: `first_line`, `pair_line`, `last_line` and `refused_line`. None has a `requires`: where the buffer is too short for
 // the line nothing is written, and the length is 0. What stands past the written length stays as it was.
+#![tactic(auto)]
+
 ghost use Rattle.base.specs.Kit.{[], ◌∷◌, ◌++◌, ◌≡◌, ◌+◌, ◌*◌, ◌≤◌, ◌<◌, length, paste};
 ghost use Rattle.sheet.specs.Sheet.{decimal, hex_digit, hex_bytes, hex_key, first_line, pair_line, last_line, refused};
 ghost use Rattle.sheet.specs.Written.{written_len, written_out};

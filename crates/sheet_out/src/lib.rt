@@ -2,6 +2,8 @@
 //
 // Interface: `put_sheet`, of an image, and `run`, of the one on standard input. Neither has a `requires` or hands anything back; where the
 // output fails they end.
+#![tactic(auto)]
+
 use key::first;
 
 // Writes the first n bytes of a line; false where the output fails.

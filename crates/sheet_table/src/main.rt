@@ -1,4 +1,6 @@
 // The sheets of named images (tools/examples.py): for each request of the input a line with its name, and the image's whole sheet.
+#![tactic(auto)]
+
 use key::first;
 use requests::put;
 

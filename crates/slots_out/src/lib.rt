@@ -1,6 +1,8 @@
 // The slots of a group: its short keys, and the suffix of a long one, added to those of a leaf.
 //
 // Interface: `add_shorts` and `add_suffix`.
+#![tactic(auto)]
+
 ghost use Rattle.base.specs.Kit.{List, ◌++◌, map, ◌≡◌, ◌-◌, ◌≤◌, length};
 ghost use Rattle.layering.specs.Tree.{Fields, Node};
 ghost use Rattle.layering.specs.Keys.{Pair};
@@ -17,7 +19,7 @@ use key::{ikey_of, part_of};
 use reading::station_at;
 
 // The place behind a part of a leaf, and the slots with its own.
-#[derive(Drop)]
+#[derive(Clone, Copy)]
 pub struct Slotted {
     pub at: usize,
     pub slots: LeafSlots,

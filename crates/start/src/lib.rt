@@ -1,5 +1,7 @@
 // Where Start comes to in a leaf: with it a walk begins from its cursor on, and any walk whose cursor has more than eight bytes. (The
 // Rust's `find_initial`, without its match on the ikey alone.)
+#![tactic(auto)]
+
 ghost use Rattle.base.specs.Kit.{◌≡◌, ◌+◌, ◌≤◌};
 ghost use Rattle.node.specs.Layout.{InLeaf, InSlot};
 ghost use Rattle.start.specs.Start.{at_equal, short_verdict, suffix_verdict, long_verdict, verdict, start_position};
@@ -12,7 +14,7 @@ use node::{leaf, permuter};
 use search::helper;
 
 // What Start makes of a slot: it is passed over; the walk stands there; its layer is entered; it cannot be read.
-#[derive(Drop)]
+#[derive(Clone, Copy)]
 pub enum Verdict {
     Pass,
     Stand,
@@ -21,7 +23,7 @@ pub enum Verdict {
 }
 
 // Where Start comes to in a leaf: a position to stand at, or a slot whose layer is entered.
-#[derive(Drop)]
+#[derive(Clone, Copy)]
 pub enum Started {
     At(Position),
     Enter(Slot),

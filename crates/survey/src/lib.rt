@@ -1,6 +1,8 @@
 // Tally (01, module 9).
 //
 // Interface: `tally`, which takes anything and has no `requires`, and its answer `Tallied`.
+#![tactic(auto)]
+
 ghost use Rattle.base.specs.Kit.{◌≡◌};
 ghost use Rattle.survey.specs.Tally.{tally};
 
@@ -8,7 +10,7 @@ use cursor::range_bound::StartMode;
 use verify::Checked;
 
 // The tally's answer: how many keys there are, or 01's number.
-#[derive(Drop)]
+#[derive(Clone, Copy)]
 pub enum Tallied {
     Counted(usize),
     Declined(u8),

@@ -7,7 +7,6 @@ use Rattle.node.specs.Layout.{version_at, permutation_at, nkeys_at, separator_at
 use Rattle.verify.specs.Types.{Progress, RecordCheck, Leaf, Internode, RecordCheckFault as Fault, Slot}
 use Rattle.verify.specs.Check.{reachable, expected, permutes, separators_from, low_end, high_end, fresh_from, permutes_from}
 use Rattle.verify.specs.CodeCases.{leaf_check, internode_check}
-use Rattle.base.proofs.Choice.{found_so}
 use Rattle.verify.proofs.Going.{says-leb, says_as, same_test}
 use Rattle.verify.proofs.Records.{says-reachable}
 use Rattle.base.proofs.Count.{left-more}
@@ -40,9 +39,9 @@ pub latest : (at size n : ℕ) → size + 32 ≤ n → leb at (n - 32 - size) �
 latest at size n h = same_test (says_as (λ q. omega arith) (λ q. omega arith) (says-leb at (n - 32 - size))) (says-leb (at + size + 32) n)
 
 -- a record that passed number 3 lies before the trailer
-pub before_trailer : (image : List ℕ) (size at : ℕ) (p : Progress) (r : Bool) → r ≡ reachable image size at p → not r ≡ false
+pub before_trailer : (image : List ℕ) (size at : ℕ) (p : Progress) (r : Bool) → r ≡ reachable image size at p → r ≡ true
     → at + size + 32 ≤ length image
-before_trailer image size at p r e f = ((says-reachable image size at p).holds (found_so _ r e f)).before
+before_trailer image size at p r e f = ((says-reachable image size at p).holds (sym e ∙ f)).before
 
 -- the low end of a child that is not the first
 pub low_inner : (image : List ℕ) (at lo i : ℕ) → (i ≡ 0 → ⊥) → separator_at image at (i - 1) ≡ low_end image at lo i

@@ -7,7 +7,7 @@ use Rattle.layering.specs.Tree.{Fields, fields_at, Node, Slots, none, value, lay
 use Rattle.layering.specs.Accepted.{room, end_n, end_s, InPostOrderS, ShortPathsS, Before, BeforeFirst, AscendS, InRangeS, first_n, LinkedN, LinkedS, FieldsS}
 use Rattle.layering.proofs.Size.{leaves_fit_s}
 use Rattle.verify.specs.Types.{Progress}
-use Rattle.verify.specs.Check.{stop, each, pass_value, enter_layer, leave_layer, listed, fits, before, in_order, in_range, suffix_c, layer_slot_c, slot_c}
+use Rattle.verify.specs.Check.{stop, each, pass_value, enter_layer, leave_layer, listed, fits, in_order, in_range, suffix_c, layer_slot_c, slot_c}
 use Rattle.verify.proofs.Going.{says-leb, says-eqb, says-and, says_self, Runs, runs_as, runs_to, runs_here, runs_test, runs-demand, runs_then}
 use Rattle.verify.proofs.Fields.{value-kind, kind-value, layer-kind, kind-layer, says-before, says_range}
 use Rattle.verify.proofs.Places.{last_n, linked-last_n, Within, room_aligned, aligned_n}

@@ -3,6 +3,8 @@
 // Interface: `check_image`, which takes any byte slice and has no `requires`, and its answer `Checked`. The other functions
 // serve it. Two of them are in a cycle, as 01 names them: checking a subtree calls for checking its layers, and a layer its
 // subtree. All that only reads and tests stands outside the cycle.
+#![tactic(auto)]
+
 mod pass;
 mod record;
 mod slot;
@@ -17,7 +19,7 @@ use node::permuter::Position;
 use node::{internode, leaf, permuter, trailer};
 
 // The three numbers of an accepted image.
-#[derive(Drop)]
+#[derive(Clone, Copy)]
 pub struct Counts {
     pub leaves: usize,
     pub value_slots: usize,
@@ -25,7 +27,7 @@ pub struct Counts {
 }
 
 // The check's answer: the numbers of an accepted image, or the number of the first fault.
-#[derive(Drop)]
+#[derive(Clone, Copy)]
 pub enum Checked {
     Accepted {
         leaves: usize,
@@ -38,7 +40,7 @@ pub enum Checked {
 // How far the check has come: the place reached; the leaf that the last one names as its next; what was counted, and how many
 // of the value slots are live; the number of the fault that ended the check, or 0; and whether this layer has had a leaf. The
 // two small fields stand last: between wide ones the gaps behind them would be copied, which took two thirds of the check's time.
-#[derive(Drop)]
+#[derive(Clone, Copy)]
 pub struct Progress {
     pub place: usize,
     pub next: u64,
@@ -49,7 +51,7 @@ pub struct Progress {
 }
 
 // What a record comes to on being reached: its kind, or the number of a fault.
-#[derive(Drop)]
+#[derive(Clone, Copy)]
 pub enum RecordCheck {
     Leaf,
     Internode,
@@ -57,7 +59,7 @@ pub enum RecordCheck {
 }
 
 // What a used slot comes to: a layer to be checked, whose root is given; the progress past a value slot; or a fault's number.
-#[derive(Drop)]
+#[derive(Clone, Copy)]
 pub enum SlotCheck {
     Layer(u64),
     Passed(Progress),

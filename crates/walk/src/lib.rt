@@ -3,6 +3,8 @@
 //
 // Interface: `placing::place` and `placing::place_short`, which take anything, the types of scan_state, `walk_ok::is_walk_ok`, and
 // answer's two functions. None has a `requires`. Those of handed_out are the step's.
+#![tactic(auto)]
+
 pub mod answer;
 pub mod handed_out;
 pub mod placing;

@@ -4,14 +4,14 @@ use cursor::range_bound::{RangeBound, StartMode};
 use node::permuter::Position;
 
 // A layer that the walk has entered: the root and the leaf of the layer above.
-#[derive(Drop)]
+#[derive(Clone, Copy)]
 pub struct LayerContext {
     pub root: u64,
     pub leaf: u64,
 }
 
 // A walk's state between calls.
-#[derive(Drop)]
+#[derive(Clone, Copy)]
 pub enum WalkState {
     Start,
     Retry,
@@ -20,14 +20,14 @@ pub enum WalkState {
 }
 
 // What a walk has handed out: the depth at which the last key was found, and how many keys; zeros before the first.
-#[derive(Drop)]
+#[derive(Clone, Copy)]
 pub struct HandedOut {
     pub depth: usize,
     pub count: usize,
 }
 
 // A walk between calls.
-#[derive(Drop)]
+#[derive(Clone, Copy)]
 pub struct Walk {
     pub image_len: usize,
     pub root: u64,
@@ -43,14 +43,14 @@ pub struct Walk {
 }
 
 // A placing: 01's number, 0 where it was not declined, and the walk.
-#[derive(Drop)]
+#[derive(Clone, Copy)]
 pub struct Placed {
     pub code: u8,
     pub walk: Walk,
 }
 
 // A step's answer: a key, whose bytes are the first `len` of the walk's buffer, with its value; none; or 01's number.
-#[derive(Drop)]
+#[derive(Clone, Copy)]
 pub enum Answer {
     Key { len: usize, value: u64 },
     Nothing,
@@ -58,7 +58,7 @@ pub enum Answer {
 }
 
 // A step: its answer, its moves, what the walk has handed out with it (zeros where the step is declined), and the walk after it.
-#[derive(Drop)]
+#[derive(Clone, Copy)]
 pub struct Stepped {
     pub answer: Answer,
     pub moves: usize,

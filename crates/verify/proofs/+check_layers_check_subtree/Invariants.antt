@@ -1,0 +1,33 @@
+-- What falls: 14 for each layer that may lie below, and in a subtree the internodes left on a path besides. Each loop's
+-- invariant: what is left, from part i on, comes to the same as the whole, and the numbers stay small.
+use Rattle.base.specs.Kit.{◌≡◌, ◌+◌, ◌*◌, ◌-◌, ◌≤◌}
+use Rattle.node.specs.Layout.{permutation_at, nkeys_at}
+use Rattle.node.specs.Permuter.{size_of}
+use Rattle.verify.specs.Check.{each, slot_c}
+use Rattle.verify.specs.CodeCases.{sub_c, Bounded}
+use Rattle.verify.proofs.Steps.{child_c}
+use Rattle.verify.proofs.+check_layers_check_subtree.Given as goal
+
+abbrev pub decreases-check_layers : goal.decreases-check_layers
+decreases-check_layers l = l.below * 14
+
+abbrev pub decreases-check_subtree : goal.decreases-check_subtree
+decreases-check_subtree l = l.below * 14 + 1 + l.path
+
+abbrev pub invariant-check_layers-loop-i : goal.invariant-check_layers-loop-i
+invariant-check_layers-loop-i l =
+    (l.i ≤ l.n) × (l.n ≤ 15) × Bounded (15 * (31 - l.below) + l.i) l.sofar
+    × (each (slot_c (sub_c l.image l.below) l.image (31 - l.below) l.at l.lo (l.top + 1)) l.i (l.n - l.i) l.sofar
+    ≡ each (slot_c (sub_c l.image l.below) l.image (31 - l.below) l.at l.lo (l.top + 1)) 0 (size_of (permutation_at l.image l.at)) l.fn.p)
+
+abbrev pub decreases-check_layers-loop-i : goal.decreases-check_layers-loop-i
+decreases-check_layers-loop-i l = l.n - l.i
+
+abbrev pub invariant-check_subtree-loop-i : goal.invariant-check_subtree-loop-i
+invariant-check_subtree-loop-i l =
+    (l.i ≤ l.n) × Bounded (15 * (31 - l.below)) l.sofar
+    × (each (child_c (sub_c l.image l.below) l.image (31 - l.below) l.at l.lo (l.top + 1) (l.path - 1)) l.i (l.n - l.i) l.sofar
+    ≡ each (child_c (sub_c l.image l.below) l.image (31 - l.below) l.at l.lo (l.top + 1) (l.path - 1)) 0 (nkeys_at l.image l.at + 1) l.fn.p)
+
+abbrev pub decreases-check_subtree-loop-i : goal.decreases-check_subtree-loop-i
+decreases-check_subtree-loop-i l = l.n - l.i

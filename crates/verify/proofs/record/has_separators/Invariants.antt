@@ -1,0 +1,10 @@
+-- The invariant: what is left, from separator i on and above the one before it, comes to the same as the whole.
+use Rattle.base.specs.Kit.{◌≡◌, ◌≤◌, ◌+◌, ◌-◌}
+use Rattle.verify.specs.Check.{separators_from}
+use Rattle.verify.proofs.record.has_separators.Given as goal
+
+abbrev pub invariant-loop-i : goal.invariant-loop-i
+invariant-loop-i l = (l.i ≤ l.n) × (separators_from l.image l.at l.low (l.top + 1) l.i (l.n - l.i) ≡ separators_from l.image l.at l.lo (l.top + 1) 0 l.n)
+
+abbrev pub decreases-loop-i : goal.decreases-loop-i
+decreases-loop-i l = l.n - l.i
