@@ -1,9 +1,5 @@
-use Rattle.base.specs.Kit.{◌+◌, ◌-◌, ◌≡◌, sym, ◌∙◌, refl, arith, rules, length}
-use Rattle.base.proofs.Choice.{found_so, found-not}
-use Rattle.moves.proofs.Answers.{there-in}
-use Rattle.moves.proofs.FastLaws.{fast_facts, stored_next}
-use Rattle.moves.proofs.StoredKey.{key_fits, key-buf-length}
-use Rattle.scan.proofs.AlongLaws.{Going, room, spent, gone, slow, out, last_out, past}
+use Rattle.base.specs.Kit.{◌+◌, ◌-◌, length}
+use Rattle.scan.proofs.AlongLaws.{Going}
 use Rattle.scan.proofs.along_leaf.along_leaf.Given as goal
 
 abbrev pub invariant-loop-moves : goal.invariant-loop-moves

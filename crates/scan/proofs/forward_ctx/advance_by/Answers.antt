@@ -1,55 +1,40 @@
 -- The loop's invariant, `Held`: the moves that are left come to what all of them come to, and the numbers are in range. Two ways lead
 -- past the moves along a leaf (`holds`), two to the pass, with and without a layer taken back (`ready`), and each outcome of it has its
 -- law.
-use Rattle.base.specs.Kit.{ℕ, ◌+◌, ◌-◌, ◌^◌, ◌<◌, ◌≡◌, refl, sym, ◌∙◌, List, ⊎_elim, Bool, arith, rules, length}
-use Rattle.base.proofs.Choice.{found_so, found-not}
-use Rattle.scan.specs.Types.{Push, Emit, Walk}
+use Rattle.base.specs.Kit.{◌+◌, ◌^◌, ◌<◌, ◌≡◌, refl, sym, ◌∙◌, arith, rules, length}
+use Rattle.scan.specs.Types.{Push, Emit}
 use Rattle.moves.proofs.Laws.{asked}
-use Rattle.scan.specs.Machine.{Scan, scan_of}
+use Rattle.scan.specs.Machine.{scan_of}
 use Rattle.walk.proofs.NumberLaws.{walk-fits}
-use Rattle.scan.proofs.LoopLaws.{Held, Turning, Ready, Made, along_so, begins, not_along, in-layer, along-on, along_ends, none, ends, stays, pops, made, goes_on_lem, enters, counts, emits, exhausts, faults}
+use Rattle.scan.proofs.LoopLaws.{Turning, Ready, Made, along_so, begins, not_along, in-layer, along-on, along_ends, none, ends, stays, pops, made, goes_on_lem, enters, counts, emits, exhausts, faults}
 use Rattle.scan.proofs.forward_ctx.advance_by.Goals as goal
-use Rattle.scan.proofs.forward_ctx.advance_by.Goals.{After-one_move-p, Joined-is_along, Joined-is_up, Start}
+use Rattle.scan.proofs.forward_ctx.advance_by.Goals.{After-one_move-p, Joined-is_along, Joined-is_up, Start, then-is_along+else-not-is_slow, else-is_along, then-is_up+else-c-eq0, else-is_up}
 
--- IN A TURN, past the moves along a leaf.
-module _ (c : Joined-is_along) where
-  abbrev walk : Walk
-  walk = c.args.walk
-
-  abbrev image : List ℕ
-  image = c.args.image.now
-
-  abbrev whole : Bool
-  whole = c.args.whole
-
-  abbrev end : List ℕ
-  end = c.part_of-end.result.now
-
-  abbrev here : Scan
-  here = record { ctx = c.if-is_along.c; buf = c.if-is_along.buf; stack = c.loop-moves.stack }
-
-  -- the two ways there
-  holds : Turning whole walk image walk.bound.kind end c.loop-moves.stack c.loop-moves.moves c.if-is_along.c c.if-is_along.buf c.if-is_along.moves c.if-is_along.keys c.if-is_along.tested
-  holds =
-      ⊎_elim
-      (λ w. along-on _ _ _ _ _ _ _ _ _ c.loop-moves.invariant (sym c.is_along.ensures ∙ w.0.taken) _ _ w.2.ensures (found_so _ _ w.4.ensures w.5.left) _ _ _ _ _ w.7 w.8 w.9 w.10 w.6)
-      (λ w. not_along _ _ _ _ _ _ _ _ _ c.loop-moves.invariant c.loop-moves-test.true _ _ _ _ _ w.2 w.3 w.4 w.5 w.1) c.if-is_along.branch
+-- IN A TURN, past the moves along a leaf: the two ways there.
+holds : (c : Joined-is_along)
+    → Turning c.args.whole c.args.walk c.args.image.now c.args.walk.bound.kind c.part_of-end.result.now c.loop-moves.stack c.loop-moves.moves c.if-is_along.c c.if-is_along.buf c.if-is_along.moves c.if-is_along.keys c.if-is_along.tested
+holds c =
+    elim c.if-is_along.branch [
+      then-is_along+else-not-is_slow w ↦
+        along-on _ _ _ _ _ _ _ _ _ c.loop-moves.invariant (sym c.is_along.ensures ∙ w.if-is_along.true) _ _ w.along_leaf-a.ensures (sym w.is_slow.ensures ∙ w.if-not-is_slow.false) _ _ _ _ _ w.buf-is w.c-is w.moves-is w.keys-is w.tested-is
+    | else-is_along w ↦ not_along _ _ _ _ _ _ _ _ _ c.loop-moves.invariant c.loop-moves-test.true _ _ _ _ _ w.buf-is w.c-is w.moves-is w.keys-is w.tested-is
+    ]
 
 -- AT ITS PASS.
-ready : (c : Joined-is_up)
-    → Ready (whole c.before.before.before) (walk c.before.before.before) (image c.before.before.before) (walk c.before.before.before).bound.kind (end c.before.before.before) (here c.before.before.before) c.if-is_along.tested c.if-is_up.c c.if-is_up.stack
-ready c =
-    let held = (holds c.before.before.before).held in
-    ⊎_elim (λ w. pops _ _ _ _ _ _ _ _ _ held _ _ (sym c.is_up.ensures ∙ w.0.taken) w.2.left (w.8 ∙ w.6.ensures) (w.7 ∙ rw w.5.ensures))
-    (λ w. stays _ _ _ _ _ _ _ _ _ held _ _ (sym c.is_up.ensures ∙ w.0.left) w.2 w.1) c.if-is_up.branch
+ready : (c : Joined-is_up) → Turning c.args.whole c.args.walk c.args.image.now c.args.walk.bound.kind c.part_of-end.result.now c.loop-moves.stack c.loop-moves.moves c.if-is_along.c c.if-is_along.buf c.if-is_along.moves c.if-is_along.keys c.if-is_along.tested
+    → Ready c.args.whole c.args.walk c.args.image.now c.args.walk.bound.kind c.part_of-end.result.now (record { ctx = c.if-is_along.c; buf = c.if-is_along.buf; stack = c.loop-moves.stack }) c.if-is_along.tested c.if-is_up.c c.if-is_up.stack
+ready c turn =
+    elim c.if-is_up.branch [
+      then-is_up+else-c-eq0 w ↦
+        pops _ _ _ _ _ _ _ _ _ turn.held _ _ (sym c.is_up.ensures ∙ w.if-is_up.true) w.if-c-eq0.false (w.c-is ∙ w.in_layer-c.ensures) (w.stack-is ∙ rw w.empty_context.ensures)
+    | else-is_up w ↦ stays _ _ _ _ _ _ _ _ _ turn.held _ _ (sym c.is_up.ensures ∙ w.if-is_up.false) w.c-is w.stack-is
+    ]
 
 -- after it
-pass-made : (c : After-one_move-p)
-    → (let turn = c.before.before.before.before.before in
-    Made (whole turn) (walk turn) (image turn) (walk turn).bound.kind (end turn) c.one_move-p.result c.one_move-p.new.1.1.1.0 c.if-is_up.stack turn.if-is_along.moves turn.if-is_along.keys)
-pass-made c =
-    let held = holds c.before.before.before.before.before in
-    made _ _ _ _ _ _ _ _ _ held.held _ _ (ready c.before.before) held.more _ _ c.one_move-p.ensures.0 c.one_move-p.ensures.1
+pass-made : (c : After-one_move-p) → Turning c.args.whole c.args.walk c.args.image.now c.args.walk.bound.kind c.part_of-end.result.now c.loop-moves.stack c.loop-moves.moves c.if-is_along.c c.if-is_along.buf c.if-is_along.moves c.if-is_along.keys c.if-is_along.tested
+    → Ready c.args.whole c.args.walk c.args.image.now c.args.walk.bound.kind c.part_of-end.result.now (record { ctx = c.if-is_along.c; buf = c.if-is_along.buf; stack = c.loop-moves.stack }) c.if-is_along.tested c.if-is_up.c c.if-is_up.stack
+    → Made c.args.whole c.args.walk c.args.image.now c.args.walk.bound.kind c.part_of-end.result.now c.one_move-p.result c.one_move-p.new.buf c.if-is_up.stack c.if-is_along.moves c.if-is_along.keys
+pass-made c turn at = made _ _ _ _ _ _ _ _ _ turn.held _ _ at turn.more _ _ c.one_move-p.ensures.0 c.one_move-p.ensures.1
 
 buf-long : (c : Start) → length c.args.walk.cursor.buf ≡ 256
 buf-long c = search rules
@@ -93,22 +78,22 @@ pub bounds-stack-depth : goal.bounds-stack-depth
 bounds-stack-depth c = let d = (holds (goal.at.bounds-stack-depth c).Joined-is_along).held.deep in search rules
 
 pub one_move-p-requires : goal.one_move-p-requires
-one_move-p-requires c = record { move_ok = asked _ _ (ready (goal.at.one_move-p-requires c).Joined-is_up).fits; leaf_value = (ready (goal.at.one_move-p-requires c).Joined-is_up).there }
+one_move-p-requires c = record { move_ok = asked _ _ (ready (goal.at.one_move-p-requires c).Joined-is_up (holds (goal.at.one_move-p-requires c).Joined-is_along)).fits; leaf_value = (ready (goal.at.one_move-p-requires c).Joined-is_up (holds (goal.at.one_move-p-requires c).Joined-is_along)).there }
 
 pub loop-moves-smaller-in-Continue : goal.loop-moves-smaller-in-Continue
 loop-moves-smaller-in-Continue c = let held = holds (goal.at.loop-moves-smaller-in-Continue c).Joined-is_along in omega (arith, held.more, held.grows)
 
 pub loop-moves-preserved-in-Continue : goal.loop-moves-preserved-in-Continue
-loop-moves-preserved-in-Continue c = goes_on_lem _ _ _ _ _ _ _ _ _ _ (pass-made (goal.at.loop-moves-preserved-in-Continue c).After-one_move-p) c.in-Continue.is
+loop-moves-preserved-in-Continue c = goes_on_lem _ _ _ _ _ _ _ _ _ _ (pass-made (goal.at.loop-moves-preserved-in-Continue c).After-one_move-p (holds (goal.at.loop-moves-preserved-in-Continue c).Joined-is_along) (ready (goal.at.loop-moves-preserved-in-Continue c).Joined-is_up (holds (goal.at.loop-moves-preserved-in-Continue c).Joined-is_along))) c.in-Continue.is
 
 pub bounds-stack-depth-in-Push : goal.bounds-stack-depth-in-Push
-bounds-stack-depth-in-Push c = let d = ((pass-made (goal.at.bounds-stack-depth-in-Push c).After-one_move-p).after (Push _) c.in-Push.is).1 in search rules
+bounds-stack-depth-in-Push c = let d = ((pass-made (goal.at.bounds-stack-depth-in-Push c).After-one_move-p (holds (goal.at.bounds-stack-depth-in-Push c).Joined-is_along) (ready (goal.at.bounds-stack-depth-in-Push c).Joined-is_up (holds (goal.at.bounds-stack-depth-in-Push c).Joined-is_along))).after (Push _) c.in-Push.is).1 in search rules
 
 pub loop-moves-smaller-in-Push : goal.loop-moves-smaller-in-Push
 loop-moves-smaller-in-Push c = let held = holds (goal.at.loop-moves-smaller-in-Push c).Joined-is_along in omega (arith, held.more, held.grows)
 
 pub loop-moves-preserved-in-Push : goal.loop-moves-preserved-in-Push
-loop-moves-preserved-in-Push c = rw c.layer_of.ensures (enters _ _ _ _ _ _ _ _ _ _ (pass-made (goal.at.loop-moves-preserved-in-Push c).After-one_move-p) _ c.in-Push.is _ c.in_layer-c-in-Push.ensures)
+loop-moves-preserved-in-Push c = rw c.layer_of.ensures (enters _ _ _ _ _ _ _ _ _ _ (pass-made (goal.at.loop-moves-preserved-in-Push c).After-one_move-p (holds (goal.at.loop-moves-preserved-in-Push c).Joined-is_along) (ready (goal.at.loop-moves-preserved-in-Push c).Joined-is_up (holds (goal.at.loop-moves-preserved-in-Push c).Joined-is_along))) _ c.in-Push.is _ c.in_layer-c-in-Push.ensures)
 
 pub overflow_add-keys : goal.overflow_add-keys
 overflow_add-keys c =
@@ -118,22 +103,22 @@ overflow_add-keys c =
 
 pub emitted-requires : goal.emitted-requires
 emitted-requires c =
-    let made = pass-made (goal.at.emitted-requires c).After-one_move-p in record { count_bound = made.room; len_bound = (made.after (Emit _ _) c.in-Emit.is).1.within }
+    let made = pass-made (goal.at.emitted-requires c).After-one_move-p (holds (goal.at.emitted-requires c).Joined-is_along) (ready (goal.at.emitted-requires c).Joined-is_up (holds (goal.at.emitted-requires c).Joined-is_along)) in record { count_bound = made.room; len_bound = (made.after (Emit _ _) c.in-Emit.is).1.within }
 
 pub returns-then-not-goes_on : goal.returns-then-not-goes_on
-returns-then-not-goes_on c = emits _ _ _ _ _ _ _ _ _ _ (pass-made (goal.at.returns-then-not-goes_on c).After-one_move-p) _ _ c.in-Emit.is ((sym c.goes_on.ensures ∙ c.if-not-goes_on.true)) _ c.emitted.ensures
+returns-then-not-goes_on c = emits _ _ _ _ _ _ _ _ _ _ (pass-made (goal.at.returns-then-not-goes_on c).After-one_move-p (holds (goal.at.returns-then-not-goes_on c).Joined-is_along) (ready (goal.at.returns-then-not-goes_on c).Joined-is_up (holds (goal.at.returns-then-not-goes_on c).Joined-is_along))) _ _ c.in-Emit.is ((sym c.goes_on.ensures ∙ c.if-not-goes_on.true)) _ c.emitted.ensures
 
 pub loop-moves-smaller : goal.loop-moves-smaller
 loop-moves-smaller c = let held = holds (goal.at.loop-moves-smaller c).Joined-is_along in omega (arith, held.more, held.grows)
 
 pub loop-moves-preserved : goal.loop-moves-preserved
-loop-moves-preserved c = counts _ _ _ _ _ _ _ _ _ _ (pass-made (goal.at.loop-moves-preserved c).After-one_move-p) _ _ c.in-Emit.is ((sym c.goes_on.ensures ∙ c.if-not-goes_on.false))
+loop-moves-preserved c = counts _ _ _ _ _ _ _ _ _ _ (pass-made (goal.at.loop-moves-preserved c).After-one_move-p (holds (goal.at.loop-moves-preserved c).Joined-is_along) (ready (goal.at.loop-moves-preserved c).Joined-is_up (holds (goal.at.loop-moves-preserved c).Joined-is_along))) _ _ c.in-Emit.is ((sym c.goes_on.ensures ∙ c.if-not-goes_on.false))
 
 pub returns-in-Exhausted : goal.returns-in-Exhausted
-returns-in-Exhausted c = exhausts _ _ _ _ _ _ _ _ _ _ (pass-made (goal.at.returns-in-Exhausted c).After-one_move-p) _ _ _ c.came_to-in-Exhausted.ensures c.in-Exhausted.is refl refl
+returns-in-Exhausted c = exhausts _ _ _ _ _ _ _ _ _ _ (pass-made (goal.at.returns-in-Exhausted c).After-one_move-p (holds (goal.at.returns-in-Exhausted c).Joined-is_along) (ready (goal.at.returns-in-Exhausted c).Joined-is_up (holds (goal.at.returns-in-Exhausted c).Joined-is_along))) _ _ _ c.came_to-in-Exhausted.ensures c.in-Exhausted.is refl refl
 
 pub returns-in-Fault : goal.returns-in-Fault
-returns-in-Fault c = faults _ _ _ _ _ _ _ _ _ _ (pass-made (goal.at.returns-in-Fault c).After-one_move-p) _ _ _ c.came_to-in-Fault.ensures c.in-Fault.is refl refl
+returns-in-Fault c = faults _ _ _ _ _ _ _ _ _ _ (pass-made (goal.at.returns-in-Fault c).After-one_move-p (holds (goal.at.returns-in-Fault c).Joined-is_along) (ready (goal.at.returns-in-Fault c).Joined-is_up (holds (goal.at.returns-in-Fault c).Joined-is_along))) _ _ _ c.came_to-in-Fault.ensures c.in-Fault.is refl refl
 
 pub returns : goal.returns
 returns c = none _ _ _ _ _ _ _ _ _ c.loop-moves.invariant c.loop-moves-test.false _ c.came_to-2.ensures
@@ -157,16 +142,16 @@ pub bounds-stack-depth-then-is_up : goal.bounds-stack-depth-then-is_up
 bounds-stack-depth-then-is_up c = let d = (holds (goal.at.bounds-stack-depth-then-is_up c).Joined-is_along).held.deep in search rules
 
 pub offset_bounds-stack-depth-in-Push : goal.offset_bounds-stack-depth-in-Push
-offset_bounds-stack-depth-in-Push c = let d = ((pass-made (goal.at.offset_bounds-stack-depth-in-Push c).After-one_move-p).after (Push _) c.in-Push.is).1 in search rules
+offset_bounds-stack-depth-in-Push c = let d = ((pass-made (goal.at.offset_bounds-stack-depth-in-Push c).After-one_move-p (holds (goal.at.offset_bounds-stack-depth-in-Push c).Joined-is_along) (ready (goal.at.offset_bounds-stack-depth-in-Push c).Joined-is_up (holds (goal.at.offset_bounds-stack-depth-in-Push c).Joined-is_along))).after (Push _) c.in-Push.is).1 in search rules
 
 pub overflow_add-depth : goal.overflow_add-depth
-overflow_add-depth c = let d = ((pass-made (goal.at.overflow_add-depth c).After-one_move-p).after (Push _) c.in-Push.is).1 in search rules
+overflow_add-depth c = let d = ((pass-made (goal.at.overflow_add-depth c).After-one_move-p (holds (goal.at.overflow_add-depth c).Joined-is_along) (ready (goal.at.overflow_add-depth c).Joined-is_up (holds (goal.at.overflow_add-depth c).Joined-is_along))).after (Push _) c.in-Push.is).1 in search rules
 
 pub came_to-requires-in-Exhausted : goal.came_to-requires-in-Exhausted
-came_to-requires-in-Exhausted c = (pass-made (goal.at.came_to-requires-in-Exhausted c).After-one_move-p).room
+came_to-requires-in-Exhausted c = (pass-made (goal.at.came_to-requires-in-Exhausted c).After-one_move-p (holds (goal.at.came_to-requires-in-Exhausted c).Joined-is_along) (ready (goal.at.came_to-requires-in-Exhausted c).Joined-is_up (holds (goal.at.came_to-requires-in-Exhausted c).Joined-is_along))).room
 
 pub came_to-requires-in-Fault : goal.came_to-requires-in-Fault
-came_to-requires-in-Fault c = (pass-made (goal.at.came_to-requires-in-Fault c).After-one_move-p).room
+came_to-requires-in-Fault c = (pass-made (goal.at.came_to-requires-in-Fault c).After-one_move-p (holds (goal.at.came_to-requires-in-Fault c).Joined-is_along) (ready (goal.at.came_to-requires-in-Fault c).Joined-is_up (holds (goal.at.came_to-requires-in-Fault c).Joined-is_along))).room
 
 pub came_to-requires-2 : goal.came_to-requires-2
 came_to-requires-2 c = c.loop-moves.invariant.room

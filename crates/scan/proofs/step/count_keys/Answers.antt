@@ -1,6 +1,5 @@
 -- The test of the walk's numbers stands first, then the walk's state; a walk that passes and is not ended makes its moves.
-use Rattle.base.specs.Kit.{sym, ap, ◌∙◌, rules}
-use Rattle.base.proofs.Choice.{found_so, found-not}
+use Rattle.base.specs.Kit.{sym, ap, ◌∙◌}
 use Rattle.scan.specs.Machine.{is_ended}
 use Rattle.scan.proofs.RunLaws.{none_declined, none_ended, counts-ahead}
 use Rattle.scan.proofs.step.count_keys.Goals as goal

@@ -1,6 +1,5 @@
 -- The test of the walk's numbers stands first, then the walk's state.
-use Rattle.base.specs.Kit.{sym, ap, ◌∙◌, false≢true, rules}
-use Rattle.base.proofs.Choice.{found_so, found-not}
+use Rattle.base.specs.Kit.{sym, ap, ◌∙◌, false≢true}
 use Rattle.scan.specs.Machine.{is_ended}
 use Rattle.scan.proofs.BeginLaws.{step_declined, step_ended, step_advances}
 use Rattle.scan.proofs.step.step.Goals as goal
