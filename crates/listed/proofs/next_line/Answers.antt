@@ -1,5 +1,4 @@
 -- `listed::next_line` meets its contract, by the listing's stage.
-use Rattle.base.specs.Kit.{rules}
 use Rattle.listed.proofs.LineLaws.{next-first, next-refused, next-pairs, next_done}
 use Rattle.listed.proofs.next_line.Goals as goal
 
