@@ -1,26 +1,28 @@
--- What is left in lent output: the check's counts, the tally's count and a built image's length, once they are put there; and what `pb_step`
--- leaves, from the step of the record.
+-- What is left in lent output: the check's counts and the tally's count, once they are put there; and what `pb_step` leaves, from the step
+-- of the record.
 use Rattle.base.specs.Kit.{◌≡◌, refl, sym, ◌∙◌, List, [], ◌∷◌, ℕ, arith, eqb, length, replicate, eqb-true, eq-eqb, ne_eqb}
 use Rattle.base.specs.Pick.{pick}
 use Rattle.base.proofs.Choice.{by_test}
 use Rattle.record_step.specs.Step.{said_in, step_number, left}
 use Rattle.record_step.specs.CodeStep.{step_out, StepMade}
-use Rattle.punchbronze.specs.Types.{Checked}
-use Rattle.punchbronze.specs.Interface.{count_numbers, counts_after, said_numbers, out_after, StepLeft, one_after}
+use Rattle.survey.specs.Tally.{tally_count}
+use Rattle.punchbronze.specs.Types.{Checked, Tallied}
+use Rattle.punchbronze.specs.Interface.{count_numbers, counts_after, said_numbers, out_after, StepLeft, count_after}
 
--- THE CHECK, THE TALLY AND THE BUILDER: s was put into a slice, and s is what is due
+-- THE CHECK AND THE TALLY: s was put into a slice, and s is what is due
 put-due : (m : ℕ) (due s old after : List ℕ) → s ≡ due → length due ≡ m → after ≡ pick (eqb (length old) (length s)) s old
     → after ≡ pick (eqb (length old) m) due old
 put-due m due s old after e l h = rw (← l, ← e) h
 
-pub counts-put : (c : Checked) (s old after : List ℕ) → s ≡ count_numbers c → after ≡ pick (eqb (length old) (length s)) s old
+pub counts_put : (c : Checked) (s old after : List ℕ) → s ≡ count_numbers c → after ≡ pick (eqb (length old) (length s)) s old
     → after ≡ counts_after c old
 unfolding counts_after count_numbers
-counts-put c s old after e h = put-due 3 _ s old after e refl h
+counts_put c s old after e h = put-due 3 _ s old after e refl h
 
-pub one-put : (n : ℕ) (s old after : List ℕ) → s ≡ n ∷ [] → after ≡ pick (eqb (length old) (length s)) s old → after ≡ one_after n old
-unfolding one_after
-one-put n s old after e h = put-due 1 _ s old after e refl h
+pub count_put : (t : Tallied) (s old after : List ℕ) → s ≡ tally_count t ∷ [] → after ≡ pick (eqb (length old) (length s)) s old
+    → after ≡ count_after t old
+unfolding count_after
+count_put t s old after e h = put-due 1 _ s old after e refl h
 
 -- THE STEP
 module _ (n b k image out : List ℕ) where

@@ -3,8 +3,9 @@
 -- call is declined; where it has another length, it stays.
 use Rattle.base.specs.Kit.{Bool, List, [], ◌∷◌, ◌≡◌, ℕ, eqb, length, replicate}
 use Rattle.base.specs.Pick.{pick}
-use Rattle.punchbronze.specs.Types.{Checked, Placed}
+use Rattle.punchbronze.specs.Types.{Checked, Placed, Tallied}
 use Rattle.verify.specs.Check.{check_counts}
+use Rattle.survey.specs.Tally.{tally_count}
 use Rattle.walk_record.specs.Record.{numbers_of, sized}
 use Rattle.walk.specs.Walk.{answer_numbers}
 use Rattle.record_step.specs.Step.{said_in, step_of, step_number, step_numbers, step_buf}
@@ -54,7 +55,6 @@ pub record StepLeft (numbers buf bound image out : List ℕ) (r : ℕ) (numbers'
   pub buf-left : buf' ≡ step_buf numbers buf bound image out
   pub out-left : out' ≡ out_after numbers buf bound image out
 
--- A TALLY says its count, and A BUILDING its image's length (02 [2]: "nothing written, length 0"): one number. The image goes into output of
--- any length, as builder says (specs/Answer.antt there).
-unfoldable pub one_after : ℕ → List ℕ → List ℕ
-one_after n out = pick (eqb (length out) 1) (n ∷ []) out
+-- A TALLY. Its count.
+unfoldable pub count_after : Tallied → List ℕ → List ℕ
+count_after t out = pick (eqb (length out) 1) (tally_count t ∷ []) out

@@ -2,7 +2,7 @@
 use Rattle.base.specs.Kit.{ap, ◌∙◌, [], ◌∷◌, needs}
 use Rattle.punchbronze.specs.Types.{Tallied}
 use Rattle.survey.specs.Tally.{tally_number, tally_count}
-use Rattle.punchbronze.proofs.Lent.{one-put}
+use Rattle.punchbronze.proofs.Lent.{count_put}
 use Rattle.punchbronze.proofs.pb_tally.Statement.{statement}
 use Rattle.punchbronze.proofs.pb_tally.Tie as tie
 
@@ -11,7 +11,7 @@ returns c =
     let put = c.before.before.before in
     let count = put.before.before.before in
     let e = count.before.tally.ensures in
-    (c.tally-number.ensures ∙ ap tally_number e, one-put _ _ _ _ (count.tally-count.ensures ∙ ap (λ (t : Tallied). tally_count t ∷ []) e) put.put-out.ensures)
+    (c.tally-number.ensures ∙ ap tally_number e, count_put _ _ _ _ (count.tally-count.ensures ∙ ap (λ (t : Tallied). tally_count t ∷ []) e) put.put-out.ensures)
 
 pub pb_tally_spec : {M : Type 1} → statement M
 pb_tally_spec =

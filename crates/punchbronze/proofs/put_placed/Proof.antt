@@ -1,6 +1,6 @@
 -- `put_placed` meets its contract: the test of the lengths decides for all four.
 use Rattle.base.specs.Kit.{refl, sym, ◌∙◌, not-false, needs}
-use Rattle.base.proofs.Choice.{not-pick-on, not-pick_off}
+use Rattle.base.proofs.Choice.{not-pick_on, not-pick_off}
 use Rattle.punchbronze.specs.Interface.{placed_number, placed_numbers, placed_buf, placed_bound}
 use Rattle.walk_record.proofs.Told.{sized_told}
 use Rattle.punchbronze.proofs.put_placed.Statement.{statement}
@@ -29,10 +29,10 @@ returns-2 c =
     let sized = put.before.before.before.before in
     let test = sized.before.is-sized.ensures in
     record {
-      number = not-pick-on _ _ test _ _ _ sized.if1.false refl;
-      numbers-left = not-pick-on _ _ test _ _ _ sized.if1.false put.put-walk.ensures.0;
-      buf-left = not-pick-on _ _ test _ _ _ sized.if1.false put.put-walk.ensures.1;
-      bound-left = not-pick-on _ _ test _ _ _ sized.if1.false put.put-walk.ensures.2;
+      number = not-pick_on _ _ test _ _ _ sized.if1.false refl;
+      numbers-left = not-pick_on _ _ test _ _ _ sized.if1.false put.put-walk.ensures.0;
+      buf-left = not-pick_on _ _ test _ _ _ sized.if1.false put.put-walk.ensures.1;
+      bound-left = not-pick_on _ _ test _ _ _ sized.if1.false put.put-walk.ensures.2;
     }
 
 pub put_placed_spec : {M : Type 1} → statement M
