@@ -14,7 +14,7 @@ use Rattle.search.proofs.Laws.{leaf_there_lem}
 use Rattle.moves.proofs.StoredKey.{key_fits}
 use Rattle.moves.proofs.FastLaws.{fast_facts, next_place}
 use Rattle.walk.specs.Walk.{one_more, walk_ok, number_of, answer_numbers}
-use Rattle.scan.specs.Machine.{is_ended, ctx_of, walk_of, after_key, step}
+use Rattle.scan.specs.Machine.{is_ended, ctx_of, walk_of, after_key}
 use Rattle.scan.specs.CodeLoop.{gone_number}
 use Rattle.walk.proofs.NumberLaws.{walk-fits}
 use Rattle.scan.proofs.BeginLaws.{in_range_lem, step_advances}

@@ -15,9 +15,9 @@ holds : (c : Joined-is_along)
     → Turning c.args.whole c.args.walk c.args.image.now c.args.walk.bound.kind c.part_of-end.result.now c.loop-moves.stack c.loop-moves.moves c.if-is_along.c c.if-is_along.buf c.if-is_along.moves c.if-is_along.keys c.if-is_along.tested
 holds c =
     elim c.if-is_along.branch [
-      then-is_along+else-not-is_slow w ↦
-        along-on _ _ _ _ _ _ _ _ _ c.loop-moves.invariant (sym c.is_along.ensures ∙ w.if-is_along.true) _ _ w.along_leaf-a.ensures (sym w.is_slow.ensures ∙ w.if-not-is_slow.false) _ _ _ _ _ w.buf-is w.c-is w.moves-is w.keys-is w.tested-is
-    | else-is_along w ↦ not_along _ _ _ _ _ _ _ _ _ c.loop-moves.invariant c.loop-moves-test.true _ _ _ _ _ w.buf-is w.c-is w.moves-is w.keys-is w.tested-is
+      | then-is_along+else-not-is_slow w ↦
+          along-on _ _ _ _ _ _ _ _ _ c.loop-moves.invariant (sym c.is_along.ensures ∙ w.if-is_along.true) _ _ w.along_leaf-a.ensures (sym w.is_slow.ensures ∙ w.if-not-is_slow.false) _ _ _ _ _ w.buf-is w.c-is w.moves-is w.keys-is w.tested-is
+      | else-is_along w ↦ not_along _ _ _ _ _ _ _ _ _ c.loop-moves.invariant c.loop-moves-test.true _ _ _ _ _ w.buf-is w.c-is w.moves-is w.keys-is w.tested-is
     ]
 
 -- AT ITS PASS.
@@ -25,9 +25,9 @@ ready : (c : Joined-is_up) → Turning c.args.whole c.args.walk c.args.image.now
     → Ready c.args.whole c.args.walk c.args.image.now c.args.walk.bound.kind c.part_of-end.result.now (record { ctx = c.if-is_along.c; buf = c.if-is_along.buf; stack = c.loop-moves.stack }) c.if-is_along.tested c.if-is_up.c c.if-is_up.stack
 ready c turn =
     elim c.if-is_up.branch [
-      then-is_up+else-c-eq0 w ↦
-        pops _ _ _ _ _ _ _ _ _ turn.held _ _ (sym c.is_up.ensures ∙ w.if-is_up.true) w.if-c-eq0.false (w.c-is ∙ w.in_layer-c.ensures) (w.stack-is ∙ rw w.empty_context.ensures)
-    | else-is_up w ↦ stays _ _ _ _ _ _ _ _ _ turn.held _ _ (sym c.is_up.ensures ∙ w.if-is_up.false) w.c-is w.stack-is
+      | then-is_up+else-c-eq0 w ↦
+          pops _ _ _ _ _ _ _ _ _ turn.held _ _ (sym c.is_up.ensures ∙ w.if-is_up.true) w.if-c-eq0.false (w.c-is ∙ w.in_layer-c.ensures) (w.stack-is ∙ rw w.empty_context.ensures)
+      | else-is_up w ↦ stays _ _ _ _ _ _ _ _ _ turn.held _ _ (sym c.is_up.ensures ∙ w.if-is_up.false) w.c-is w.stack-is
     ]
 
 -- after it

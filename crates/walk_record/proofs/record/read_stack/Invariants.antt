@@ -1,0 +1,9 @@
+use Rattle.base.specs.Kit.{◌≡◌, ◌-◌, ◌≤◌, length}
+use Rattle.walk_record.proofs.Turns.{fill}
+use Rattle.walk_record.proofs.record.read_stack.Given as goal
+
+abbrev pub invariant-loop-i : goal.invariant-loop-i
+invariant-loop-i l = (l.i ≤ 31) × (length l.stack ≡ 31) × (fill l.numbers l.stack l.i (31 - l.i) ≡ fill l.numbers l.initial.stack 0 31)
+
+abbrev pub decreases-loop-i : goal.decreases-loop-i
+decreases-loop-i l = 31 - l.i
