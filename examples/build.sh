@@ -5,7 +5,7 @@
 # rt, cc and cargo; no network. What is built goes into target/.
 set -eu
 cd "$(dirname "$0")/.."
-rt staticlib punchbronze
+tools/staticlib punchbronze
 out=target/examples
 mkdir -p $out
 for example in list page build; do

@@ -1,4 +1,4 @@
-// Says where libpunchbronze.a is: PUNCHBRONZE_LIB, or else target/staticlib of this repository, where `rt staticlib punchbronze`
+// Says where libpunchbronze.a is: PUNCHBRONZE_LIB, or else target/staticlib of this repository, where `tools/staticlib punchbronze`
 // writes it.
 use std::env;
 use std::path::PathBuf;

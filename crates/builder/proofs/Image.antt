@@ -1,6 +1,6 @@
 -- THE IMAGE, in output of just its length: the first eight bytes, the layers, and the trailer, one behind the other, are all of it.
 -- Assumes of the station lines what the top layer is given.
-use Rattle.base.specs.Kit.{◌≡◌, refl, ap, ap₂, sym, ◌∙◌, subst, List, [], ◌∷◌, ◌++◌, append_assoc, append-nil, ℕ, ◌+◌, ◌*◌, ◌≤◌, ◌<◌, arith, length, drop, take, length-append, paste, replicate, flatten, drop_of_length-le, take-length}
+use Rattle.base.specs.Kit.{◌≡◌, refl, ap, ap₂, sym, ◌∙◌, subst, List, [], ◌++◌, append_assoc, append-nil, ℕ, ◌+◌, ◌≤◌, arith, length, drop, length-append, flatten, drop_of_length-le, take-length}
 use Rattle.layering.specs.Tree.{Node, leaf, internode, beyond}
 use Rattle.layering.specs.Keys.{Pair, leaves_n}
 use Rattle.layering.specs.Accepted.{end_n}
@@ -15,7 +15,6 @@ use Rattle.building.proofs.Stands.{le_bytes-length}
 use Rattle.building.proofs.Plain.{PlainN, length_n}
 use Rattle.building.proofs.Placed.{size_n_placed, grow_n}
 use Rattle.building.proofs.Puts.{put-length}
-use Rattle.building.proofs.Sizes.{shift_n}
 use Rattle.building.proofs.Layers.{layer_ok}
 use Rattle.building.proofs.Towers.{leaves_end}
 use Rattle.building.proofs.Image.{image_of-length}

@@ -3,7 +3,6 @@
 -- sheet, nothing written, length 0"), and the output after it ("Lent output past the written length keeps its bytes", 01).
 use Rattle.base.specs.Kit.{Bool, ◌&&◌, List, ℕ, leb, length}
 use Rattle.base.specs.Pick.{pick}
-use Rattle.reading.specs.Form.{Sheet}
 use Rattle.reading.specs.Fault.{Answer, fault, sheet, read_sheet}
 use Rattle.building.specs.Build.{build}
 use Rattle.building.specs.CodeWritten.{put}

@@ -1,12 +1,13 @@
 -- Bytes and byte order, as the image that is built wants them: what is filled with zeros, and a number of bytes. Assumes nothing.
-use Rattle.base.specs.Kit.{◌≡◌, refl, ap, sym, ◌∙◌, List, [], ◌∷◌, ◌++◌, ℕ, zero, suc, ◌-◌, ◌≤◌, ◌<◌, ◌^◌, arith, length, get_or, take, replicate, take-append_seam}
+use Rattle.base.specs.Kit.{◌≡◌, refl, ap, sym, ◌∙◌, List, [], ◌∷◌, ◌++◌, ℕ, zero, suc, ◌-◌, ◌≤◌, ◌<◌, ◌^◌, arith, length, get_or, replicate}
 use Rattle.key.specs.Ikey.{be, ikey_of}
 use Rattle.key.specs.Part.{padded}
 use Rattle.key.proofs.Bytes.{Bytes, bytes-append}
-use Rattle.key.proofs.Order.{Lex, nil-lt, head-lt, tail-lt}
+use Rattle.key.proofs.Order.{Lex, head-lt, tail-lt}
 use Rattle.key.proofs.Ikey.{be-lt, be-zeros, padded-take}
 
 pub lex_irrefl : (s : List ℕ) → Lex s s → ⊥
+lex_irrefl [] x = elim x [ ]
 lex_irrefl (a ∷ s) (head-lt h) = omega arith
 lex_irrefl (a ∷ s) (tail-lt e h) = lex_irrefl s h
 

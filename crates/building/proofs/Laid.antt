@@ -1,18 +1,16 @@
 -- A LEAF, written part by part. Laying parts one behind the other is laying them all; what is then in the output, with the record behind it
 -- and the previous leaf's `next` set, is the leaf written. Assumes that the slots can be written (PlainS), and that there is room.
-use Rattle.base.specs.Kit.{◌≡◌, refl, ap, ap₂, sym, ◌∙◌, List, [], ◌∷◌, ◌++◌, append_assoc, append-nil, ℕ, suc, ◌+◌, ◌-◌, ◌≤◌, ◌<◌, ◌^◌, arith, leb, length, paste-zero, length-append}
-use Rattle.base.specs.Pick.{pick}
+use Rattle.base.specs.Kit.{◌≡◌, refl, ap, sym, ◌∙◌, List, [], ◌∷◌, ◌++◌, append_assoc, append-nil, ℕ, suc, ◌+◌, ◌≤◌, ◌^◌, arith, length, paste-zero, length-append}
 use Rattle.sheet.proofs.Paste.{paste-append}
-use Rattle.layering.specs.Tree.{Fields, Node, leaf, Slots, none, value, layer}
+use Rattle.layering.specs.Tree.{Fields, Slots, none, value, layer}
 use Rattle.layering.specs.Accepted.{room, end_n, end_s}
 use Rattle.building.specs.Shape.{size_s, join_s, identity, leaf_of}
 use Rattle.building.specs.Build.{first_leaf_n, stands_at, start_at, root_at, placed_n, placed_s, fields_s, leaf_bytes, suffix_bytes, bytes_n, bytes_s}
-use Rattle.building.specs.CodeOrder.{filled, left}
 use Rattle.building.specs.CodeWritten.{put, linked, written}
 use Rattle.building.specs.CodeLaid.{Laid, laid_value, laid_layer, laid}
 use Rattle.building.proofs.Plain.{PlainN, PlainS, fields_s-length, leaf_bytes-length, suffix_bytes-length, length_n, length_s}
 use Rattle.building.proofs.Puts.{put-length}
-use Rattle.building.proofs.Placed.{size_n_placed, size_s-bytes, grow_n, grow_s}
+use Rattle.building.proofs.Placed.{size_n_placed, size_s-bytes, grow_s}
 
 pub laid_join : (l : Laid) (a b : Slots) → laid l (join_s a b) ≡ laid (laid l a) b
 unfolding laid join_s

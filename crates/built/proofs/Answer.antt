@@ -10,7 +10,7 @@ use Rattle.building.specs.Build.{build}
 use Rattle.building.specs.CodeWritten.{put}
 use Rattle.builder.specs.Answer.{fits, answered, out_after, built, built_out, built_number, built_length}
 use Rattle.builder.specs.declared.Built.TheVariants.{Image, Declined}
-use Rattle.built.specs.Built.{Taken, Writes}
+use Rattle.built.specs.Built.{Writes}
 use Rattle.built.proofs.Built.{taken-sheet}
 
 -- a sheet that is taken, by whether its image fits

@@ -1,12 +1,12 @@
 -- THE SIBLINGS OF AN INTERNODE, one by one: what is left, written from here, comes to the same as the whole. Assumes of the lines what a
 -- layer is given.
-use Rattle.base.specs.Kit.{◌≡◌, refl, ap, ap₂, sym, ◌∙◌, List, [], ◌∷◌, ◌++◌, append_assoc, append-nil, map, ℕ, zero, suc, ◌+◌, ◌*◌, ◌-◌, ◌^◌, ◌≤◌, ◌<◌, arith, length, length-append, drop, add-mul, flatten, length-map, ◌⊎◌, inl, inr}
+use Rattle.base.specs.Kit.{◌≡◌, refl, ap, sym, ◌∙◌, List, [], ◌∷◌, ◌++◌, append_assoc, append-nil, map, ℕ, suc, ◌+◌, ◌*◌, ◌-◌, ◌^◌, ◌≤◌, ◌<◌, arith, length, length-append, drop, add-mul, flatten, length-map, ◌⊎◌, inl, inr}
 use Rattle.layering.specs.Tree.{Node}
 use Rattle.layering.specs.Accepted.{end_n}
 use Rattle.building.specs.Shape.{first_ikey_n}
 use Rattle.building.specs.Build.{stands_at}
 use Rattle.building.specs.CodeOrder.{after, leaves_behind, siblings, tower}
-use Rattle.building.specs.CodeWritten.{last_n, Behind, written, put}
+use Rattle.building.specs.CodeWritten.{Behind, put}
 use Rattle.building.specs.CodeSiblings.{written_l, end_l, last_l, stands_l, internode_row, closed}
 use Rattle.building.proofs.Plain.{PlainN}
 use Rattle.building.proofs.Placed.{grow_n}

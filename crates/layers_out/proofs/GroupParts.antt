@@ -1,19 +1,17 @@
 -- ONE GROUP among the lines that are left: how many slots it takes; its short keys, then a suffix or a layer for the long ones, laid one
 -- behind the other, are the group laid. Assumes of the lines what a layer is given.
-use Rattle.base.specs.Kit.{◌≡◌, refl, ap, ap₂, sym, ◌∙◌, List, [], ◌∷◌, ◌++◌, map, Bool, false, ℕ, zero, suc, ◌+◌, ◌*◌, ◌-◌, ◌≤◌, ◌<◌, min, arith, length, length-append, length-map}
-use Rattle.layering.specs.Tree.{Fields, Node, Slots, none, value, layer}
+use Rattle.base.specs.Kit.{◌≡◌, refl, ap, ap₂, sym, ◌∙◌, List, [], ◌∷◌, ◌++◌, map, false, ℕ, suc, ◌+◌, ◌*◌, ◌-◌, ◌≤◌, ◌<◌, min, arith, length, length-append, length-map}
+use Rattle.layering.specs.Tree.{Fields, Node}
 use Rattle.layering.specs.Keys.{Pair, leaves_s}
-use Rattle.layering.specs.Ascending.{All}
 use Rattle.layering.specs.Accepted.{end_n, end_s}
-use Rattle.layering.proofs.Row.{all_map}
-use Rattle.building.specs.Shape.{ends_here, has_layer, below as lower_pair, long_slots, group_slots, size_s, join_s, layer_of}
+use Rattle.building.specs.Shape.{ends_here, has_layer, below as lower_pair, long_slots, size_s, join_s, layer_of}
 use Rattle.building.specs.Build.{stands_at, root_at, placed_n, bytes_n, suffix_word}
-use Rattle.building.specs.CodeOrder.{leaves_l, limit}
+use Rattle.building.specs.CodeOrder.{leaves_l}
 use Rattle.building.specs.CodeWritten.{put}
 use Rattle.building.specs.CodeLaid.{Laid, laid_layer, laid}
 use Rattle.building.proofs.Groups.{all_both}
-use Rattle.building.proofs.Laid.{laid_join, laid-at, laid-count}
-use Rattle.groups.specs.CodeGroups.{lowered, lines_at, Lines, OneLine, group_of, shorts_of, longs_of, short_slots, Fit, LongsFit, slots_at, GroupRead, LoweredRead}
+use Rattle.building.proofs.Laid.{laid_join, laid-at}
+use Rattle.groups.specs.CodeGroups.{lowered, lines_at, OneLine, group_of, shorts_of, longs_of, short_slots, Fit, LongsFit, slots_at, GroupRead, LoweredRead}
 use Rattle.reading.specs.Pairs.{pairs_in}
 use Rattle.groups.specs.declared.Group.{Group}
 use Rattle.groups.specs.declared.Lowered.{Lowered}

@@ -1,17 +1,16 @@
 -- SUBTREES AND LAYERS: a leaf is a tower of height 0, and an internode over a tower and its siblings is one that is higher; when no line is
 -- left the tower is the layer. Assumes of the lines what a layer is given, and room.
-use Rattle.base.specs.Kit.{◌≡◌, refl, ap, ap₂, sym, ◌∙◌, List, [], ◌∷◌, map, ℕ, zero, suc, ◌+◌, ◌*◌, ◌-◌, ◌^◌, ◌≤◌, ◌<◌, arith, length, drop, length-drop, pow-succ', pow-le-pow_right, add-one, dec_le, length-map}
+use Rattle.base.specs.Kit.{◌≡◌, refl, ap, sym, ◌∙◌, List, [], ◌∷◌, map, ℕ, suc, ◌+◌, ◌*◌, ◌-◌, ◌^◌, ◌≤◌, ◌<◌, arith, length, drop, length-drop, pow-succ', pow-le-pow_right, add-one, dec_le, length-map}
 use Rattle.base.specs.Pick.{pick}
 use Rattle.layering.specs.Tree.{Node, Slots}
-use Rattle.layering.specs.Keys.{leaves_n}
 use Rattle.layering.specs.Accepted.{end_n}
-use Rattle.building.specs.Shape.{fill, leaf_of, first_ikey_n, internode_of, root_over, layer_over, leaves_of, layer_of, groups, group_slots}
-use Rattle.building.specs.Build.{stands_at, placed_n, bytes_n}
-use Rattle.building.specs.CodeOrder.{leaves_l, limit, filled, left, leaves_behind, after, head_n, siblings, tower}
-use Rattle.building.specs.CodeWritten.{put, last_n, Behind, linked, written}
-use Rattle.building.specs.CodeSiblings.{end_l, last_l, closed}
+use Rattle.building.specs.Shape.{fill, leaf_of, first_ikey_n, root_over, layer_over, leaves_of, layer_of}
+use Rattle.building.specs.Build.{stands_at}
+use Rattle.building.specs.CodeOrder.{leaves_l, limit, left, leaves_behind, after, head_n, siblings, tower}
+use Rattle.building.specs.CodeWritten.{last_n, Behind, linked, written}
+use Rattle.building.specs.CodeSiblings.{end_l, closed}
 use Rattle.building.proofs.Plain.{PlainN}
-use Rattle.building.proofs.Fill.{Each, Few, fill-some}
+use Rattle.building.proofs.Fill.{Each, fill-some}
 use Rattle.building.proofs.LeafByLeaf.{leaf_by-leaf}
 use Rattle.building.proofs.Placed.{grow_n}
 use Rattle.building.proofs.Order.{fill_plain, layer_leaves}
@@ -19,7 +18,7 @@ use Rattle.building.proofs.Tower.{root-tower}
 use Rattle.building.proofs.Towers.{siblings_plain, siblings-few, tower_plain, tower_end, tower-grows, drop-tower, each-drop, leaves_end, low, height}
 use Rattle.building.proofs.Siblings.{siblings-closed, siblings_end, siblings_stand, siblings-last, siblings-first, written-length, last-behind}
 use Rattle.groups.specs.CodeGroups.{Fit, lines_at, slots_at}
-use Rattle.layers_out.specs.CodeCycle.{Given, Room, leaf_at, leaves_at, siblings_at, layer_at, Rest, Wrote, Closed, LayerRoom, LayerWrote}
+use Rattle.layers_out.specs.CodeCycle.{Given, Room, leaf_at, leaves_at, siblings_at, layer_at, Wrote, Closed, LayerRoom, LayerWrote}
 use Rattle.layers_out.specs.declared.Run.{Run}
 use Rattle.layers_out.proofs.Lines.{given_plain, leaves_ok, leaves-some, leaves_after, rest-rest, first_leaf, some-slots, no-slots}
 

@@ -1,14 +1,13 @@
 -- ONE LEAF: its parts laid, its record behind them, the previous leaf's `next` set, is the leaf written. Assumes that its slots can be
 -- written, and that there is room.
-use Rattle.base.specs.Kit.{Bool, true, false, leb-true, ◌≡◌, refl, ap, sym, ◌∙◌, List, [], ◌∷◌, map, ℕ, zero, suc, ◌+◌, ◌-◌, ◌^◌, ◌≤◌, ◌<◌, arith, leb, length, get_or, dec_le}
+use Rattle.base.specs.Kit.{Bool, true, false, leb-true, ◌≡◌, refl, ap, ◌∙◌, List, [], ◌∷◌, map, ℕ, ◌+◌, ◌-◌, ◌≤◌, arith, leb, length, get_or, dec_le}
 use Rattle.base.specs.Pick.{pick}
-use Rattle.base.proofs.Choice.{pick_ind}
-use Rattle.layering.specs.Tree.{Fields, Node, Slots, none, value, layer}
+use Rattle.layering.specs.Tree.{Fields, Slots, none, value, layer}
 use Rattle.layering.specs.Accepted.{end_n, end_s}
-use Rattle.building.specs.Shape.{size_s, join_s, leaf_of, identity, first_ikey_s, first_ikey_n}
+use Rattle.building.specs.Shape.{size_s, join_s, leaf_of, first_ikey_s, first_ikey_n}
 use Rattle.building.specs.Build.{stands_at, start_at, root_at, placed_n, placed_s, fields_s, leaf_bytes, bytes_s}
-use Rattle.building.specs.CodeOrder.{filled, left, after}
-use Rattle.building.specs.CodeWritten.{put, last_n, linked, written}
+use Rattle.building.specs.CodeOrder.{filled, after}
+use Rattle.building.specs.CodeWritten.{put, last_n, linked}
 use Rattle.building.specs.CodeLaid.{Laid, laid}
 use Rattle.building.proofs.Plain.{PlainS, length_s, leaf_bytes-length}
 use Rattle.building.proofs.Fill.{join_size}
@@ -18,7 +17,7 @@ use Rattle.building.proofs.Puts.{put-length}
 use Rattle.building.proofs.Laid.{laid-at, laid-count, laid-whole, leaf-written}
 use Rattle.groups.specs.CodeGroups.{slots_at}
 use Rattle.image_out.specs.CodeRows.{slots_of, fresh_head, HoldsSlots}
-use Rattle.layers_out.specs.CodeCycle.{Given, Room, leaf_at, Rest, Wrote, GroupsLaid}
+use Rattle.layers_out.specs.CodeCycle.{Given, Room, leaf_at, Wrote, GroupsLaid}
 use Rattle.image_out.proofs.Rows.{slots-first}
 use Rattle.layers_out.specs.declared.Run.{Run}
 use Rattle.layers_out.specs.declared.Parts.{Parts}

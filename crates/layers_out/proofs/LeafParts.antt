@@ -1,6 +1,6 @@
 -- THE PARTS OF A LEAF, group by group: what is left, laid from here, comes to the same as the whole. Assumes nothing.
-use Rattle.base.specs.Kit.{◌≡◌, refl, ap, ap₂, sym, ◌∙◌, List, [], ◌∷◌, ◌++◌, append-nil, map, ℕ, zero, suc, ◌+◌, ◌-◌, ◌≤◌, ◌<◌, arith, leb, length, length-append}
-use Rattle.layering.specs.Tree.{Fields, Slots, none, value, layer}
+use Rattle.base.specs.Kit.{◌≡◌, refl, ap, sym, ◌∙◌, List, [], ◌∷◌, ℕ, ◌+◌, ◌-◌, ◌≤◌, ◌<◌, arith, length}
+use Rattle.layering.specs.Tree.{Fields, Slots, none}
 use Rattle.layering.specs.Accepted.{end_s}
 use Rattle.building.specs.Shape.{size_s, join_s}
 use Rattle.building.specs.CodeOrder.{filled, left}
@@ -10,7 +10,6 @@ use Rattle.building.proofs.Laid.{laid_join, laid-at, laid-count}
 use Rattle.building.proofs.Placed.{grow_s}
 use Rattle.groups.specs.CodeGroups.{slots_at}
 use Rattle.image_out.specs.CodeRows.{slots_of, HoldsSlots}
-use Rattle.image_out.specs.declared.LeafSlots.{LeafSlots}
 use Rattle.layers_out.specs.CodeCycle.{Given, Room, GroupsLaid}
 use Rattle.slots_out.specs.CodeSlots.{GroupLaid}
 use Rattle.layers_out.specs.declared.Parts.{Parts}

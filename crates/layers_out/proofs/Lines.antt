@@ -1,11 +1,11 @@
 -- STATION LINES LEFT behind some leaves, and the leaves that they make. Assumes of the lines what a layer is given.
-use Rattle.base.specs.Kit.{◌≡◌, refl, ap, sym, ◌∙◌, List, [], ◌∷◌, map, ℕ, zero, suc, ◌+◌, ◌*◌, ◌-◌, ◌^◌, ◌≤◌, ◌<◌, arith, length, drop, length-map}
-use Rattle.layering.specs.Tree.{Node, Slots}
+use Rattle.base.specs.Kit.{◌≡◌, refl, ap, ◌∙◌, List, [], ◌∷◌, map, ℕ, zero, suc, ◌+◌, ◌-◌, ◌<◌, arith, length, drop, length-map}
+use Rattle.layering.specs.Tree.{Slots}
 use Rattle.layering.specs.Keys.{Pair}
-use Rattle.building.specs.Shape.{fill, leaf_of, groups, group_slots, layer_of}
+use Rattle.building.specs.Shape.{leaf_of, groups, group_slots, layer_of}
 use Rattle.building.specs.CodeOrder.{filled, left, leaves_behind, after, head_n, tower}
 use Rattle.building.proofs.Plain.{PlainN, PlainS}
-use Rattle.building.proofs.Fill.{Each, Few, fill-some}
+use Rattle.building.proofs.Fill.{Each, Few}
 use Rattle.building.proofs.LeafByLeaf.{leaf_by-leaf, after_drops}
 use Rattle.building.proofs.Order.{groups_plain, behind_plain, filled_plain}
 use Rattle.groups.specs.CodeGroups.{lower, lowered, lines_at, Fit, slots_at}

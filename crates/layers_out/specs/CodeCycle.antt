@@ -1,14 +1,14 @@
 -- WHAT THE WRITERS OF A LAYER ARE GIVEN, AND WHAT THEY LEAVE, by the order in which they go (building/specs/CodeOrder.antt): the output with
 -- a subtree written behind the layer's last leaf, and the station lines behind it.
-use Rattle.base.specs.Kit.{List, [], ◌∷◌, map, ◌≡◌, ℕ, suc, ◌+◌, ◌*◌, ◌-◌, ◌^◌, ◌≤◌, ◌<◌, length}
+use Rattle.base.specs.Kit.{List, map, ◌≡◌, ℕ, suc, ◌+◌, ◌*◌, ◌-◌, ◌^◌, ◌≤◌, ◌<◌, length}
 use Rattle.layering.specs.Tree.{Node, Slots}
-use Rattle.layering.specs.Accepted.{end_n, end_s}
-use Rattle.building.specs.Shape.{size_s, group_slots, leaf_of, first_ikey_n, layer_of}
+use Rattle.layering.specs.Accepted.{end_n}
+use Rattle.building.specs.Shape.{group_slots, leaf_of, first_ikey_n, layer_of}
 use Rattle.building.specs.Build.{stands_at, placed_n, bytes_n}
 use Rattle.building.specs.CodeOrder.{leaves_l, limit, filled, left, leaves_behind, after, siblings, tower}
 use Rattle.building.specs.CodeWritten.{put, last_n, Behind, written}
 use Rattle.building.specs.CodeSiblings.{end_l, last_l, closed}
-use Rattle.building.specs.CodeLaid.{Laid, laid}
+use Rattle.building.specs.CodeLaid.{Laid}
 use Rattle.groups.specs.CodeGroups.{Fit, lines_at, slots_at, group_of}
 use Rattle.image_out.specs.CodeRows.{slots_of}
 use Rattle.layers_out.specs.declared.Run.{Run}

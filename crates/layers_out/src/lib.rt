@@ -152,7 +152,7 @@ fn write_groups(
 ) -> Parts
     requires given { Given sheet.now below line left }
     requires room { Room out.old at 0 (end_s at (filled 15 (slots_at sheet.now below line left))) }
-    ensures { GroupsLaid sheet.now below line left out.exit.now result (laid (record { out = out.entry.now; at = at; fields = [] }) (filled 15 (slots_at sheet.now below line left))) }
+    ensures { GroupsLaid sheet.now below line left out.new result (laid (record { out = out.old; at = at; fields = [] }) (filled 15 (slots_at sheet.now below line left))) }
 {
     let mut p = Parts {
         at: at,
@@ -207,7 +207,7 @@ fn write_group(
     requires holds_slots { HoldsSlots (15 - size_s (group_at sheet.now below line left)) slots }
     requires room { Room out.old at 0 (end_s at (group_at sheet.now below line left)) }
     ensures { (fs : List Fields) → slots ≡ slots_of fs
-        → GroupLaid out.exit.now result (laid (record { out = out.entry.now; at = at; fields = fs }) (group_at sheet.now below line left)) }
+        → GroupLaid out.new result (laid (record { out = out.old; at = at; fields = fs }) (group_at sheet.now below line left)) }
 {
     let s = slots_out::add_shorts(sheet, line, g.shorts, 31 - below, slots);
     if g.longs == 0 {

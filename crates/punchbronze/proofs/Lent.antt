@@ -7,7 +7,7 @@ use Rattle.record_step.specs.Step.{said_in, step_number, left}
 use Rattle.record_step.specs.CodeStep.{step_out, StepMade}
 use Rattle.survey.specs.Tally.{tally_count}
 use Rattle.punchbronze.specs.Types.{Checked, Tallied}
-use Rattle.punchbronze.specs.Interface.{count_numbers, counts_after, said_numbers, out_after, StepLeft, count_after}
+use Rattle.punchbronze.specs.Interface.{count_numbers, counts_after, said_numbers, out_after, StepLeft, count_after, one_after}
 
 -- THE CHECK AND THE TALLY: s was put into a slice, and s is what is due
 put-due : (m : ℕ) (due s old after : List ℕ) → s ≡ due → length due ≡ m → after ≡ pick (eqb (length old) (length s)) s old
@@ -23,6 +23,10 @@ pub count_put : (t : Tallied) (s old after : List ℕ) → s ≡ tally_count t �
     → after ≡ count_after t old
 unfolding count_after
 count_put t s old after e h = put-due 1 _ s old after e refl h
+
+pub one_put : (n : ℕ) (s old after : List ℕ) → s ≡ n ∷ [] → after ≡ pick (eqb (length old) (length s)) s old → after ≡ one_after n old
+unfolding one_after
+one_put n s old after e h = put-due 1 _ s old after e refl h
 
 -- THE STEP
 module _ (n b k image out : List ℕ) where

@@ -58,3 +58,8 @@ pub record StepLeft (numbers buf bound image out : List ℕ) (r : ℕ) (numbers'
 -- A TALLY. Its count.
 unfoldable pub count_after : Tallied → List ℕ → List ℕ
 count_after t out = pick (eqb (length out) 1) (tally_count t ∷ []) out
+
+-- A BUILDING says its image's length (02 [2]: "nothing written, length 0"): one number. The image goes into output of any length, as builder
+-- says (specs/Answer.antt there).
+unfoldable pub one_after : ℕ → List ℕ → List ℕ
+one_after n out = pick (eqb (length out) 1) (n ∷ []) out

@@ -5,3 +5,4 @@ pub use Rattle.cursor.specs.declared.range_bound.StartMode.TheVariants.{Above, F
 pub use Rattle.walk.specs.declared.scan_state.Placed.{Placed}
 pub use Rattle.survey.specs.declared.Tallied.{Tallied}
 pub use Rattle.verify.specs.declared.Checked.{Checked}
+pub use Rattle.builder.specs.declared.Built.{Built}

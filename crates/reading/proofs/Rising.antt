@@ -39,6 +39,8 @@ bytes_stand (tail-lt {a = a} {b = b} e h) =
 
 keys_stand : (s t : List ℕ) → Lex s t → Lex (hex_key s) (hex_key t)
 unfolding hex_key hex_bytes
+keys_stand [] [] h = elim h [ ]
+keys_stand (a ∷ s) [] h = elim h [ ]
 keys_stand [] (b ∷ t) h = head-lt (high_digit (b / 16))
 keys_stand (a ∷ s) (b ∷ t) h = bytes_stand h
 

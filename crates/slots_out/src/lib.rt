@@ -58,7 +58,7 @@ pub fn add_suffix(
     requires line_in_bounds { (sub : List Pair → Node) → end_s at (long_slots sub (lines_at sheet.now depth line 1)) ≤ length out.old }
     requires out_len_bound { length out.old ≤ 16777216 }
     ensures { (fs : List Fields) (sub : List Pair → Node) → slots ≡ slots_of fs
-        → GroupLaid out.exit.now result (laid (record { out = out.entry.now; at = at; fields = fs }) (long_slots sub (lines_at sheet.now depth line 1))) }
+        → GroupLaid out.new result (laid (record { out = out.old; at = at; fields = fs }) (long_slots sub (lines_at sheet.now depth line 1))) }
 {
     let mut buf = [0u8; 256];
     let r = station_at(sheet, line, &mut buf);

@@ -3,7 +3,8 @@
 --
 -- What functions return is fixed by their contracts, which are equations with definitions of the same names: `check_image` (verify/src/lib.rt),
 -- `place` and `place_short` (walk/src/placing.rt), `step` (scan/src/step.rt), `step_lent` (lent/src/lib.rt), `tally` (survey/src/lib.rt),
--- `open` and `next_line` (listed/src/lib.rt), the five of punchbronze/src/lib.rt, and the bound test, `test` (cursor/src/range_bound.rt), whose
+-- `open` and `next_line` (listed/src/lib.rt), `read_sheet` and `station_at` (reading/src/lib.rt), `build` (builder/src/lib.rt), whose definitions are
+-- `opened` of `read_sheet`, `StationRead`, and `built` with `built_out`, the six of punchbronze/src/lib.rt, and the bound test, `test` (cursor/src/range_bound.rt), whose
 -- definition is `tested`. None of them has a `requires`.
 use Rattle.base.specs.Kit.{◌≡◌, true, not, map, List, [], ℕ, ◌≤◌, ◌<◌, eqb, length, get_or}
 use Rattle.base.specs.Pick.{pick}
@@ -34,6 +35,12 @@ use Rattle.survey.specs.Tally.{tally_number, tally_count, tally}
 use Rattle.survey.specs.Tally01.{tally01}
 use Rattle.sheet.specs.Sheet.{sheet}
 use Rattle.listed.specs.Listed.{listed_pairs, walk_moves, listed, AllLines}
+use Rattle.reading.specs.Form.{Sheet, text}
+use Rattle.reading.specs.Good.{Good}
+use Rattle.reading.specs.Fault.{fault, sheet as sheet_read, keys_rise, judged, read_sheet}
+use Rattle.building.specs.Build.{build}
+use Rattle.builder.specs.Answer.{built, built_out, built_number, built_length}
+use Rattle.built.specs.Built.{Taken, Rebuilt, Writes}
 use Rattle.worked_examples.specs.Examples.{machine_says, paper_says, table}
 use Rattle.walk_record.specs.Record.{numbers_of, read_walk, is_record}
 use Rattle.punchbronze.specs.Interface.{fitting, placed_number, PutPlaced}
@@ -57,6 +64,9 @@ use Rattle.survey.proofs.Theorem as survey
 use Rattle.survey.proofs.AsBefore as as_before
 use Rattle.listed.proofs.Listed as listing
 use Rattle.listed.proofs.Counted as counted
+use Rattle.reading.proofs.Sheets as reading
+use Rattle.built.proofs.Built as built-image
+use Rattle.built.proofs.Answer as answer
 use Rattle.worked_examples.proofs.Examples as worked
 use Rattle.walk_record.proofs.Inverse as inverse
 use Rattle.c_demands.proofs.CDemand as c
@@ -194,6 +204,32 @@ all_lines = listing.all_lines
 pub count-is-lines : (image : List ℕ) → check_number (check image) ≡ 0
     → (listed image ≡ sheet (length (listed_pairs image)) (listed_pairs image) (walk_moves image)) × (listed_pairs image ≡ live_pairs image)
 count-is-lines = counted.count-is-lines
+
+-- 02 [2]: THE READER OF SHEETS is the inverse of what a sheet is: what is read has just that text; every good sheet, read, is that sheet, or 32 where
+-- its keys do not rise; and where it says 31 no good sheet has the text.
+pub read-text : (s : List ℕ) (x : Sheet) → read_sheet s ≡ sheet_read x → (s ≡ text x) × Good x × (keys_rise x.pairs ≡ true)
+read-text s x e = let r = reading.read-text s x e in (r.text, r.good, r.rise)
+
+pub text_read : (x : Sheet) → Good x → read_sheet (text x) ≡ judged x
+text_read = reading.text_read
+
+pub no-sheet : (s : List ℕ) → read_sheet s ≡ fault 31 → (x : Sheet) → Good x → s ≡ text x → ⊥
+no-sheet = reading.no-sheet
+
+-- 02 [2]: THE BUILDER. Where its number is 0 the sheet was taken, and the image of its pairs stands at the front of the output: it holds the
+-- sheet's pairs (built/specs/Built.antt `Holds`); else nothing is written. So for every sheet that is taken.
+pub build_writes : (s out : List ℕ) → built_number (built s (length out)) ≡ 0 → (x : Sheet) × Writes s out x
+build_writes = answer.build_writes
+
+pub build-declines : (s out : List ℕ) → (built_number (built s (length out)) ≡ 0 → ⊥) → (built_length (built s (length out)) ≡ 0) × (built_out s out ≡ out)
+build-declines = answer.build-declines
+
+pub taken-sheet : (s : List ℕ) (x : Sheet) → read_sheet s ≡ sheet_read x → length (build x.pairs) ≤ 16777216 → Taken s x
+taken-sheet = built-image.taken-sheet
+
+-- For every accepted image: the image built from its live pairs, where it fits, holds the same pairs.
+pub rebuilt : (image : List ℕ) → Bytes image → check_number (check image) ≡ 0 → length (build (live_pairs image)) ≤ 16777216 → Rebuilt image
+rebuilt = built-image.rebuilt
 
 -- THE EXAMPLES P1 to P12, with the check's answers for their images.
 pub examples : map machine_says table ≡ map paper_says table
