@@ -8,6 +8,7 @@ use builder::Built;
 use key::first;
 use node::le;
 use requests::{item, line, put};
+use std::io::Read;
 use verify::Checked;
 
 // The requests: more than there are.
@@ -21,10 +22,8 @@ const MARK: u8 = 165;
 
 // Sets all bytes to the mark.
 fn set_marks(out: &mut [u8]) {
-    let mut i = 0;
-    while i < out.len() {
-        out[i] = MARK;
-        i += 1;
+    for b in out.iter_mut() {
+        *b = MARK;
     }
 }
 
@@ -43,35 +42,33 @@ fn times_prime(h: u64) -> u64 {
 // 64-bit FNV-1a.
 fn fnv(bytes: &[u8]) -> u64 {
     let mut h: u64 = 14695981039346656037;
-    let mut i = 0;
-    while i < bytes.len() {
-        h = times_prime(h ^ wide(bytes[i]));
-        i += 1;
+    for b in bytes {
+        h = times_prime(h ^ wide(*b));
     }
     h
 }
 
 // Bytes in hex, on a line.
-fn put_bytes(bytes: &[u8]) {
-    let mut i = 0;
-    while i < bytes.len() {
-        io::print_hex(libc::STDOUT_FILENO, wide(bytes[i]), 2);
-        i += 1;
+fn put_bytes(rt: &impl Print, bytes: &[u8]) {
+    for b in bytes {
+        let x = *b;
+        let _ = print!(rt; "{x:02x}");
     }
-    put(b"\n");
+    put(rt, b"\n");
 }
 
 // The front of a request's line.
-fn answer(name: &[u8], number: u64, len: usize, out: &[u8]) {
-    put(name);
-    item(b" ", number);
-    item(b" ", len as u64);
-    put(b" ");
-    io::print_hex(libc::STDOUT_FILENO, fnv(out), 16);
+fn answer(rt: &impl Print, name: &[u8], number: u64, len: usize, out: &[u8]) {
+    put(rt, name);
+    item(rt, b" ", number);
+    item(rt, b" ", len as u64);
+    put(rt, b" ");
+    let x = fnv(out);
+    let _ = print!(rt; "{x:016x}");
 }
 
 // What the check says of an image.
-fn check(image: &[u8]) {
+fn check(rt: &impl Print, image: &[u8]) {
     let checked = verify::check_image(image);
     match checked {
         Checked::Accepted {
@@ -79,31 +76,31 @@ fn check(image: &[u8]) {
             value_slots,
             sub_layers,
         } => {
-            item(b" accepted ", leaves as u64);
-            item(b" ", value_slots as u64);
-            line(b"", b" ", sub_layers);
+            item(rt, b" accepted ", leaves as u64);
+            item(rt, b" ", value_slots as u64);
+            line(rt, b"", b" ", sub_layers);
         }
-        Checked::Declined(n) => line(b"", b" refused ", n as usize),
+        Checked::Declined(n) => line(rt, b"", b" refused ", n as usize),
     }
 }
 
 // A request's lines, with output of so many bytes.
-fn request(name: &[u8], form: u8, sheet: &[u8], out: &mut [u8]) {
+fn request(rt: &impl Print, name: &[u8], form: u8, sheet: &[u8], out: &mut [u8]) {
     set_marks(out);
     let built = builder::build(sheet, out);
     match built {
         Built::Image(n) => {
-            answer(name, 0, n, out);
+            answer(rt, name, 0, n, out);
             let image = first(out, n);
-            check(image);
+            check(rt, image);
             if form == WHOLE {
-                put_bytes(image);
-                sheet_out::put_sheet(image);
+                put_bytes(rt, image);
+                sheet_out::put_sheet(rt, image);
             }
         }
         Built::Declined(number) => {
-            answer(name, number, 0, out);
-            put(b"\n");
+            answer(rt, name, number, 0, out);
+            put(rt, b"\n");
         }
     }
 }
@@ -117,8 +114,8 @@ fn number(bytes: &[u8]) -> usize {
 }
 
 // Reads one request and prints its lines; false at the end of the input, or where there is no such output.
-fn one(sheet: &mut [u8], space: &mut [u8]) -> bool {
-    let r = requests::read_request(sheet);
+fn one(rt: &impl Print, input: &mut impl Read, sheet: &mut [u8], space: &mut [u8]) -> bool {
+    let r = requests::read_request(input, sheet);
     let name = r.name;
     let cursor = r.cursor;
     let room = number(&cursor);
@@ -126,6 +123,7 @@ fn one(sheet: &mut [u8], space: &mut [u8]) -> bool {
         return false;
     }
     request(
+        rt,
         first(&name, r.name_len),
         r.form,
         first(sheet, r.image_len),
@@ -134,16 +132,18 @@ fn one(sheet: &mut [u8], space: &mut [u8]) -> bool {
     true
 }
 
-fn all(sheet: &mut [u8], space: &mut [u8]) {
-    let mut left = MOST;
-    while 0 < left && one(sheet, space) {
-        left -= 1;
+fn all(rt: &impl Print, input: &mut impl Read, sheet: &mut [u8], space: &mut [u8]) {
+    for _ in 0..MOST {
+        if !one(rt, input, sheet, space) {
+            return;
+        }
     }
 }
 
 // The longest output: an image of 3,841 keys of two bytes has room.
-fn main() {
-    let mut sheet = io::large_buffer();
+fn main(rt: HostRuntime) {
+    let mut input = rt.reader();
+    let mut sheet = [0u8; 65536];
     let mut space = [0u8; 131072];
-    all(&mut sheet, &mut space);
+    all(&rt, &mut input, &mut sheet, &mut space);
 }

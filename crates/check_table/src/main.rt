@@ -6,17 +6,17 @@ use node::trailer;
 use requests::{item, put};
 
 // What the length test says of a length.
-fn length(n: usize) {
-    item(b"length ", n as u64);
+fn length(rt: &impl Print, n: usize) {
+    item(rt, b"length ", n as u64);
     if trailer::is_length_ok(n) {
-        put(b" passes\n");
+        put(rt, b" passes\n");
     } else {
-        put(b" declined 1\n");
+        put(rt, b" declined 1\n");
     }
 }
 
-fn main() {
-    length(16777216);
-    length(16777224);
-    runner::run();
+fn main(rt: HostRuntime) {
+    length(&rt, 16777216);
+    length(&rt, 16777224);
+    runner::run(&rt);
 }

@@ -6,6 +6,7 @@
 use cursor::range_bound::StartMode;
 use key::first;
 use requests::{item, line, put};
+use std::io::Read;
 use verify::Checked;
 use walk::scan_state::{Answer, HandedOut, Stepped, Walk};
 
@@ -13,58 +14,54 @@ use walk::scan_state::{Answer, HandedOut, Stepped, Walk};
 const MOST: usize = 1000;
 
 // Two spaces for each layer.
-fn indent(depth: usize) {
-    let mut left = depth;
-    while 0 < left {
-        put(b"  ");
-        left -= 1;
+fn indent(rt: &impl Print, depth: usize) {
+    for _ in 0..depth {
+        put(rt, b"  ");
     }
 }
 
 // A key's line.
-fn key_line(s: Stepped, len: usize, value: u64) {
+fn key_line(rt: &impl Print, s: Stepped, len: usize, value: u64) {
     let handed = s.handed;
     let walk = s.walk;
     let cursor = walk.cursor;
     let buf = cursor.buf;
-    item(b"", handed.count as u64);
-    put(b" ");
-    indent(handed.depth);
-    requests::put_pair(first(&buf, len), value);
+    item(rt, b"", handed.count as u64);
+    put(rt, b" ");
+    indent(rt, handed.depth);
+    requests::put_pair(rt, first(&buf, len), value);
 }
 
 // The last line.
-fn end_line(handed: HandedOut) {
-    item(b"end depth ", handed.depth as u64);
-    item(b" count ", handed.count as u64);
-    put(b"\n");
+fn end_line(rt: &impl Print, handed: HandedOut) {
+    item(rt, b"end depth ", handed.depth as u64);
+    item(rt, b" count ", handed.count as u64);
+    put(rt, b"\n");
 }
 
 // The keys of a walk, up to the first answer that is no key.
-fn keys(walk: Walk, image: &[u8]) {
+fn keys(rt: &impl Print, walk: Walk, image: &[u8]) {
     let mut w = walk;
-    let mut left = image.len();
-    while 0 < left {
+    for _ in 0..image.len() {
         let s = scan::step::step(w, image);
         let answer = s.answer;
         w = s.walk;
         match answer {
-            Answer::Key { len, value } => key_line(s, len, value),
+            Answer::Key { len, value } => key_line(rt, s, len, value),
             Answer::Nothing => {
-                end_line(s.handed);
+                end_line(rt, s.handed);
                 return;
             }
             Answer::Declined(n) => {
-                line(b"", b"declined ", n as usize);
+                line(rt, b"", b"declined ", n as usize);
                 return;
             }
         }
-        left -= 1;
     }
 }
 
 // An image's screen, or the check's number.
-fn screen(image: &[u8]) {
+fn screen(rt: &impl Print, image: &[u8]) {
     let checked = verify::check_image(image);
     match checked {
         Checked::Accepted {
@@ -73,33 +70,35 @@ fn screen(image: &[u8]) {
             sub_layers: _,
         } => {
             let placed = walk::placing::place(image, StartMode::From, b"", 0, b"");
-            keys(placed.walk, image);
+            keys(rt, placed.walk, image);
         }
-        Checked::Declined(n) => line(b"", b"refused ", n as usize),
+        Checked::Declined(n) => line(rt, b"", b"refused ", n as usize),
     }
 }
 
 // Reads one request and prints its screen; false at the end of the input.
-fn one(image: &mut [u8]) -> bool {
-    let r = requests::read_request(image);
+fn one(rt: &impl Print, input: &mut impl Read, image: &mut [u8]) -> bool {
+    let r = requests::read_request(input, image);
     if !r.more {
         return false;
     }
     let name = r.name;
-    put(first(&name, r.name_len));
-    put(b"\n");
-    screen(first(image, r.image_len));
+    put(rt, first(&name, r.name_len));
+    put(rt, b"\n");
+    screen(rt, first(image, r.image_len));
     true
 }
 
-fn all(image: &mut [u8]) {
-    let mut left = MOST;
-    while 0 < left && one(image) {
-        left -= 1;
+fn all(rt: &impl Print, input: &mut impl Read, image: &mut [u8]) {
+    for _ in 0..MOST {
+        if !one(rt, input, image) {
+            return;
+        }
     }
 }
 
-fn main() {
-    let mut space = io::large_buffer();
-    all(&mut space);
+fn main(rt: HostRuntime) {
+    let mut input = rt.reader();
+    let mut space = [0u8; 65536];
+    all(&rt, &mut input, &mut space);
 }

@@ -1,6 +1,6 @@
 // The listing, run by the gate on no input at all.
 #![tactic(auto)]
 
-fn main() {
-    sheet_out::run();
+fn main(rt: HostRuntime) {
+    sheet_out::run(&rt);
 }

@@ -7,6 +7,7 @@
 use key::first;
 use node::le;
 use requests::{Read, item, line, put, put_hex};
+use std::io;
 use walk_record::layout;
 
 // The requests: more than there are.
@@ -36,44 +37,43 @@ fn alter_one(numbers: &mut [u64; layout::NUMBERS], buf: &mut [u8; 256], index: u
 }
 
 fn alter(numbers: &mut [u64; layout::NUMBERS], buf: &mut [u8; 256], changes: &[u8]) {
-    let mut i = 0;
-    while i < changes.len() / WIDTH {
+    for i in 0..changes.len() / WIDTH {
         let at = i * WIDTH;
         let index = le::u16_at(changes, at);
         let value = le::u64_at(changes, at + 2);
         alter_one(numbers, buf, index as usize, value);
-        i += 1;
     }
 }
 
 // A record's numbers but for the image's length, the bound and what is stacked.
-fn put_numbers(numbers: &[u64; layout::NUMBERS]) {
-    item(b" root ", numbers[layout::ROOT]);
-    item(b" leaf ", numbers[layout::LEAF]);
-    item(b" position ", numbers[layout::POSITION]);
-    item(b" offset ", numbers[layout::OFFSET]);
-    item(b" length ", numbers[layout::LEN]);
-    item(b" depth ", numbers[layout::DEPTH]);
-    item(b" state ", numbers[layout::STATE]);
-    item(b" mode ", numbers[layout::MODE]);
-    item(b" last depth ", numbers[layout::LAST_DEPTH]);
-    item(b" count ", numbers[layout::COUNT]);
+fn put_numbers(rt: &impl Print, numbers: &[u64; layout::NUMBERS]) {
+    item(rt, b" root ", numbers[layout::ROOT]);
+    item(rt, b" leaf ", numbers[layout::LEAF]);
+    item(rt, b" position ", numbers[layout::POSITION]);
+    item(rt, b" offset ", numbers[layout::OFFSET]);
+    item(rt, b" length ", numbers[layout::LEN]);
+    item(rt, b" depth ", numbers[layout::DEPTH]);
+    item(rt, b" state ", numbers[layout::STATE]);
+    item(rt, b" mode ", numbers[layout::MODE]);
+    item(rt, b" last depth ", numbers[layout::LAST_DEPTH]);
+    item(rt, b" count ", numbers[layout::COUNT]);
 }
 
 // What a declined step says, where that is not six zeros.
-fn put_said(out: &[u64; 6]) {
+fn put_said(rt: &impl Print, out: &[u64; 6]) {
     if (out[0] | out[1] | out[2] | out[3] | out[4] | out[5]) != 0 {
-        item(b" said ", out[0]);
-        item(b" ", out[1]);
-        item(b" ", out[2]);
-        item(b" ", out[3]);
-        item(b" ", out[4]);
-        item(b" ", out[5]);
+        item(rt, b" said ", out[0]);
+        item(rt, b" ", out[1]);
+        item(rt, b" ", out[2]);
+        item(rt, b" ", out[3]);
+        item(rt, b" ", out[4]);
+        item(rt, b" ", out[5]);
     }
 }
 
 // One step; whether it handed out a key.
 fn step(
+    rt: &impl Print,
     name: &[u8],
     numbers: &mut [u64; layout::NUMBERS],
     buf: &mut [u8; 256],
@@ -82,38 +82,40 @@ fn step(
 ) -> bool {
     let mut out = [7u64; 6];
     let code = punchbronze::pb_step(numbers, buf, bound, image, &mut out);
-    put(name);
+    put(rt, name);
     if code != 0 {
-        item(b" declined ", code as u64);
-        put_numbers(numbers);
-        put_said(&out);
-        put(b"\n");
+        item(rt, b" declined ", code as u64);
+        put_numbers(rt, numbers);
+        put_said(rt, &out);
+        put(rt, b"\n");
         return false;
     }
     if out[0] == 1 {
-        put(b" key ");
-        put_hex(first(buf, out[1] as usize));
-        item(b" ", out[2]);
+        put(rt, b" key ");
+        put_hex(rt, first(buf, out[1] as usize));
+        item(rt, b" ", out[2]);
     } else {
-        put(b" none");
+        put(rt, b" none");
     }
-    item(b" moves ", out[3]);
-    item(b" depth ", out[4]);
-    item(b" count ", out[5]);
-    put(b"\n");
+    item(rt, b" moves ", out[3]);
+    item(rt, b" depth ", out[4]);
+    item(rt, b" count ", out[5]);
+    put(rt, b"\n");
     out[0] == 1
 }
 
 fn steps(
+    rt: &impl Print,
     name: &[u8],
     numbers: &mut [u64; layout::NUMBERS],
     buf: &mut [u8; 256],
     bound: &[u8; 256],
     image: &[u8],
 ) {
-    let mut left = STEPS;
-    while 0 < left && step(name, numbers, buf, bound, image) {
-        left -= 1;
+    for _ in 0..STEPS {
+        if !step(rt, name, numbers, buf, bound, image) {
+            return;
+        }
     }
 }
 
@@ -136,6 +138,7 @@ fn place(
 
 // The placing, the alterations, and the steps up to the first that hands out no key.
 fn run(
+    rt: &impl Print,
     name: &[u8],
     mode: u8,
     kind: u8,
@@ -157,37 +160,39 @@ fn run(
         &mut buf,
         &mut bound,
     );
-    line(name, b" placed ", code as usize);
+    line(rt, name, b" placed ", code as usize);
     if code == 0 {
         alter(&mut numbers, &mut buf, changes);
-        steps(name, &mut numbers, &mut buf, &bound, image);
+        steps(rt, name, &mut numbers, &mut buf, &bound, image);
     }
 }
 
 // The check's number, and its three numbers.
-fn check(name: &[u8], image: &[u8]) {
+fn check(rt: &impl Print, name: &[u8], image: &[u8]) {
     let mut counts = [7u64; 3];
     let code = punchbronze::pb_check(image, &mut counts);
-    put(name);
-    item(b" check ", code as u64);
-    item(b" leaves ", counts[0]);
-    item(b" values ", counts[1]);
-    item(b" layers ", counts[2]);
-    put(b"\n");
+    put(rt, name);
+    item(rt, b" check ", code as u64);
+    item(rt, b" leaves ", counts[0]);
+    item(rt, b" values ", counts[1]);
+    item(rt, b" layers ", counts[2]);
+    put(rt, b"\n");
 }
 
 // The tally's number, and its count.
-fn tally(name: &[u8], kind: u8, cursor: &[u8], bound_key: &[u8], image: &[u8]) {
+fn tally(rt: &impl Print, name: &[u8], kind: u8, cursor: &[u8], bound_key: &[u8], image: &[u8]) {
     let mut out = [7u64; 1];
     let code = punchbronze::pb_tally(image, cursor, kind, bound_key, &mut out);
-    put(name);
-    item(b" tally ", code as u64);
-    item(b" count ", out[0]);
-    put(b"\n");
+    put(rt, name);
+    item(rt, b" tally ", code as u64);
+    item(rt, b" count ", out[0]);
+    put(rt, b"\n");
 }
 
 // A request's answers, its alterations read first; false where the input has none.
 fn altered(
+    rt: &impl Print,
+    input: &mut impl io::Read,
     name: &[u8],
     form: u8,
     mode: u8,
@@ -197,18 +202,19 @@ fn altered(
     image: &[u8],
 ) -> bool {
     let mut changes = [0u8; 512];
-    let Read::Number(n) = requests::field(&mut changes, 2) else {
+    let Read::Number(n) = requests::field(input, &mut changes, 2) else {
         return false;
     };
     if form == CHECK {
-        check(name, image);
+        check(rt, name, image);
         return true;
     }
     if form == TOTAL {
-        tally(name, kind, cursor, bound_key, image);
+        tally(rt, name, kind, cursor, bound_key, image);
         return true;
     }
     run(
+        rt,
         name,
         mode,
         kind,
@@ -221,8 +227,8 @@ fn altered(
 }
 
 // Reads one request and prints its answers; false at the end of the input.
-fn one(image: &mut [u8]) -> bool {
-    let r = requests::read_request(image);
+fn one(rt: &impl Print, input: &mut impl io::Read, image: &mut [u8]) -> bool {
+    let r = requests::read_request(input, image);
     if !r.more {
         return false;
     }
@@ -230,6 +236,8 @@ fn one(image: &mut [u8]) -> bool {
     let cursor = r.cursor;
     let bound = r.bound;
     altered(
+        rt,
+        input,
         first(&name, r.name_len),
         r.form,
         r.mode,
@@ -240,14 +248,16 @@ fn one(image: &mut [u8]) -> bool {
     )
 }
 
-fn all(image: &mut [u8]) {
-    let mut left = MOST;
-    while 0 < left && one(image) {
-        left -= 1;
+fn all(rt: &impl Print, input: &mut impl io::Read, image: &mut [u8]) {
+    for _ in 0..MOST {
+        if !one(rt, input, image) {
+            return;
+        }
     }
 }
 
-fn main() {
-    let mut space = io::large_buffer();
-    all(&mut space);
+fn main(rt: HostRuntime) {
+    let mut input = rt.reader();
+    let mut space = [0u8; 65536];
+    all(&rt, &mut input, &mut space);
 }

@@ -2,6 +2,9 @@
 // kind, a byte each; the cursor's length in two bytes and the cursor; the bound key's likewise and the key; the image's length in four
 // and the image, at most 65,536 bytes. What a program reads behind it, it reads by `field`.
 //
+// What reads takes the input, a reader, and what prints the handle that prints. A read that fails counts as the input's end, and of a
+// write that fails nothing is said.
+//
 // Interface: `read_request` and `field` read, and specs/Requests.antt has what holds of what they hand back, the input itself being free;
 // `put`, `item`, `line`, `put_hex` and `put_pair` print and hand nothing back. None has a `requires`.
 #![tactic(auto)]
@@ -12,6 +15,7 @@ ghost use Rattle.requests.specs.Requests.{Within, Fits};
 use key::first;
 use node::le;
 use sheet::LINE;
+use std::io;
 
 // A number of the input, or its end.
 #[derive(Clone, Copy)]
@@ -37,66 +41,66 @@ pub struct Request {
     pub image_len: usize,
 }
 
-pub fn put(text: &[u8]) {
-    io::write_all(libc::STDOUT_FILENO, text);
+pub fn put(rt: &impl Print, text: &[u8]) {
+    let _ = rt.write_all(text);
 }
 
 // A word and a number.
-pub fn item(word: &[u8], n: u64) {
-    put(word);
-    io::print_decimal(libc::STDOUT_FILENO, n);
+pub fn item(rt: &impl Print, word: &[u8], n: u64) {
+    put(rt, word);
+    let _ = rt.print(n);
 }
 
 // A line of a name, a word and a number.
-pub fn line(name: &[u8], word: &[u8], n: usize) {
-    put(name);
-    item(word, n as u64);
-    put(b"\n");
+pub fn line(rt: &impl Print, name: &[u8], word: &[u8], n: usize) {
+    put(rt, name);
+    item(rt, word, n as u64);
+    put(rt, b"\n");
 }
 
 // A key in hex, `-` for none, and its value: a sheet's line.
-pub fn put_pair(bytes: &[u8], value: u64) {
+pub fn put_pair(rt: &impl Print, bytes: &[u8], value: u64) {
     let mut space = [0u8; LINE];
     let n = sheet::pair_line(&mut space, bytes, value);
-    put(first(&space, n));
+    put(rt, first(&space, n));
 }
 
 // Some bytes in hex, `-` for none: the front of a sheet's line, which ends in a space, a digit and a newline.
-pub fn put_hex(bytes: &[u8]) {
+pub fn put_hex(rt: &impl Print, bytes: &[u8]) {
     let mut space = [0u8; LINE];
     let n = sheet::pair_line(&mut space, bytes, 0);
     if 3 <= n {
-        put(first(&space, n - 3));
+        put(rt, first(&space, n - 3));
     }
 }
 
 // The next n bytes of the input, at the start of buf; false where there are not so many.
-fn next(buf: &mut [u8], n: usize) -> bool
+fn next(input: &mut impl io::Read, buf: &mut [u8], n: usize) -> bool
     ensures { result ≡ true → n ≤ length buf.old }
 {
     if buf.len() < n {
         return false;
     }
-    io::read_full(libc::STDIN_FILENO, &mut buf[0..n]) == n
+    input.read_exact(&mut buf[0..n]).is_ok()
 }
 
 // The number in the next bytes of the input, at most four.
-fn number(width: usize) -> Read {
+fn number(input: &mut impl io::Read, width: usize) -> Read {
     let mut bytes = [0u8; 4];
-    if !next(&mut bytes, width) {
+    if !next(input, &mut bytes, width) {
         return Read::End;
     }
     Read::Number(le::u32_at(&bytes, 0) as usize)
 }
 
 // A length of so many bytes, and as many bytes as it says, at the start of buf; the length.
-pub fn field(buf: &mut [u8], width: usize) -> Read
+pub fn field(input: &mut impl io::Read, buf: &mut [u8], width: usize) -> Read
     ensures { Within result (length buf.old) }
 {
-    let Read::Number(n) = number(width) else {
+    let Read::Number(n) = number(input, width) else {
         return Read::End;
     };
-    if !next(buf, n) {
+    if !next(input, buf, n) {
         return Read::End;
     }
     Read::Number(n)
@@ -124,26 +128,26 @@ fn none() -> Request
 }
 
 // The next request of the input, its image at the start of `image`.
-pub fn read_request(image: &mut [u8]) -> Request
+pub fn read_request(input: &mut impl io::Read, image: &mut [u8]) -> Request
     ensures { Fits result (length image.old) }
 {
     let mut name = [0u8; 256];
     let mut how = [0u8; 3];
     let mut cursor = [0u8; 512];
     let mut bound = [0u8; 512];
-    let Read::Number(n) = field(&mut name, 1) else {
+    let Read::Number(n) = field(input, &mut name, 1) else {
         return none();
     };
-    if !next(&mut how, 3) {
+    if !next(input, &mut how, 3) {
         return none();
     }
-    let Read::Number(c) = field(&mut cursor, 2) else {
+    let Read::Number(c) = field(input, &mut cursor, 2) else {
         return none();
     };
-    let Read::Number(b) = field(&mut bound, 2) else {
+    let Read::Number(b) = field(input, &mut bound, 2) else {
         return none();
     };
-    let Read::Number(i) = field(image, 4) else {
+    let Read::Number(i) = field(input, image, 4) else {
         return none();
     };
     Request {

@@ -1,7 +1,7 @@
 // Runs requests (see `requests`): reads them from standard input and prints their answers. Every line but form 5's begins with the
 // name.
 //
-// Interface: `run`, which has no `requires` and hands nothing back.
+// Interface: `run`, which has no `requires` and hands nothing back. It reads and prints by the handle that it takes.
 #![tactic(auto)]
 
 use cursor::cursor_key::CursorKey;
@@ -9,6 +9,7 @@ use cursor::range_bound;
 use cursor::range_bound::{Side, StartMode};
 use key::first;
 use requests::{item, line, put, put_hex};
+use std::io::Read;
 use verify::Checked;
 use walk::scan_state::{Answer, Placed, Stepped, Walk};
 
@@ -48,36 +49,36 @@ fn placed(mode: u8, kind: u8, cursor: &[u8], bound: &[u8], image: &[u8]) -> Plac
 }
 
 // A key's line: the first `len` bytes of the walk's buffer, and the value.
-fn key_line(name: &[u8], walk: Walk, len: usize, value: u64) {
+fn key_line(rt: &impl Print, name: &[u8], walk: Walk, len: usize, value: u64) {
     let cursor = walk.cursor;
     let buf = cursor.buf;
-    put(name);
-    put(b" key ");
-    requests::put_pair(first(&buf, len), value);
+    put(rt, name);
+    put(rt, b" key ");
+    requests::put_pair(rt, first(&buf, len), value);
 }
 
 // The layers that a walk has entered, outermost first, or `-` for none.
-fn put_stack(walk: Walk) {
+fn put_stack(rt: &impl Print, walk: Walk) {
     if walk.depth == 0 {
-        put(b"-");
+        put(rt, b"-");
     }
     let stack = walk.stack;
     let mut i = 0;
     while i < 31 && i < walk.depth {
         let entry = stack[i];
         if 0 < i {
-            put(b",");
+            put(rt, b",");
         }
-        item(b"", entry.root);
-        item(b":", entry.leaf);
+        item(rt, b"", entry.root);
+        item(rt, b":", entry.leaf);
         i += 1;
     }
 }
 
 // The first n bytes of a cursor's buffer, in hex.
-fn put_front(cursor: CursorKey, n: usize) {
+fn put_front(rt: &impl Print, cursor: CursorKey, n: usize) {
     let buf = cursor.buf;
-    put_hex(first(&buf, n));
+    put_hex(rt, first(&buf, n));
 }
 
 // The bytes of the buffer that a state shows: up to the key's end, and the layer's ikey at least.
@@ -89,60 +90,60 @@ fn shown(cursor: CursorKey) -> usize {
 }
 
 // The rest of a step's line: its moves, what it says of the keys handed out, and the walk after it.
-fn state(s: Stepped) {
+fn state(rt: &impl Print, s: Stepped) {
     let walk = s.walk;
     let handed = s.handed;
     let position = walk.position;
     let cursor = walk.cursor;
-    item(b" moves ", s.moves as u64);
-    item(b" depth ", handed.depth as u64);
-    item(b" count ", handed.count as u64);
-    item(b" pos ", position.0 as u64);
-    item(b" leaf ", walk.leaf);
-    item(b" root ", walk.root);
-    item(b" off ", cursor.offset as u64);
-    item(b" len ", cursor.len as u64);
-    put(b" ikey ");
-    io::print_hex(libc::STDOUT_FILENO, cursor.ikey, 16);
-    put(b" buf ");
-    put_front(cursor, shown(cursor));
-    put(b" stack ");
-    put_stack(walk);
-    put(b"\n");
+    item(rt, b" moves ", s.moves as u64);
+    item(rt, b" depth ", handed.depth as u64);
+    item(rt, b" count ", handed.count as u64);
+    item(rt, b" pos ", position.0 as u64);
+    item(rt, b" leaf ", walk.leaf);
+    item(rt, b" root ", walk.root);
+    item(rt, b" off ", cursor.offset as u64);
+    item(rt, b" len ", cursor.len as u64);
+    put(rt, b" ikey ");
+    let _ = print!(rt; "{:016x}", cursor.ikey);
+    put(rt, b" buf ");
+    put_front(rt, cursor, shown(cursor));
+    put(rt, b" stack ");
+    put_stack(rt, walk);
+    put(rt, b"\n");
 }
 
 // A step's line in form 5.
-fn state_line(s: Stepped) {
+fn state_line(rt: &impl Print, s: Stepped) {
     let answer = s.answer;
     match answer {
         Answer::Key { len, value } => {
             let walk = s.walk;
-            put(b"key ");
-            put_front(walk.cursor, len);
-            item(b" ", value);
-            state(s);
+            put(rt, b"key ");
+            put_front(rt, walk.cursor, len);
+            item(rt, b" ", value);
+            state(rt, s);
         }
         Answer::Nothing => {
-            put(b"none");
-            state(s);
+            put(rt, b"none");
+            state(rt, s);
         }
-        Answer::Declined(n) => line(b"", b"fault ", n as usize),
+        Answer::Declined(n) => line(rt, b"", b"fault ", n as usize),
     }
 }
 
 // The last lines of a walk that has come to its end.
-fn ending(name: &[u8], form: u8, keys: usize, moves: usize) {
+fn ending(rt: &impl Print, name: &[u8], form: u8, keys: usize, moves: usize) {
     if form == STATES {
-        line(b"", b"total ", moves);
+        line(rt, b"", b"total ", moves);
         return;
     }
     if form == TOTAL {
-        line(name, b" keys ", keys);
+        line(rt, name, b" keys ", keys);
     }
-    put(name);
-    put(b" none\n");
+    put(rt, name);
+    put(rt, b" none\n");
     if form == MOVES || form == LENT {
-        line(name, b" moves ", moves);
+        line(rt, name, b" moves ", moves);
     }
 }
 
@@ -155,77 +156,75 @@ fn step_in(form: u8, walk: Walk, image: &[u8]) -> Stepped {
 }
 
 // A step over an image eight bytes shorter: its number, and the walk after it.
-fn foreign(name: &[u8], walk: Walk, image: &[u8]) -> Walk {
+fn foreign(rt: &impl Print, name: &[u8], walk: Walk, image: &[u8]) -> Walk {
     if image.len() < 8 {
         return walk;
     }
     let s = scan::step::step(walk, first(image, image.len() - 8));
     let answer = s.answer;
     if let Answer::Declined(n) = answer {
-        line(name, b" declined ", n as usize);
+        line(rt, name, b" declined ", n as usize);
     }
     s.walk
 }
 
 // The answers of a walk, up to the first that is no key.
-fn answers(name: &[u8], form: u8, walk: Walk, image: &[u8]) {
+fn answers(rt: &impl Print, name: &[u8], form: u8, walk: Walk, image: &[u8]) {
     let mut w = walk;
-    let mut keys = 0;
     let mut moves = 0;
-    while keys < image.len() {
+    for keys in 0..image.len() {
         if form == FOREIGN {
-            w = foreign(name, w, image);
+            w = foreign(rt, name, w, image);
         }
         let s = step_in(form, w, image);
         let answer = s.answer;
         w = s.walk;
         moves = std::num::wrapping_add_usize(moves, s.moves);
         if form == STATES {
-            state_line(s);
+            state_line(rt, s);
         }
         match answer {
             Answer::Key { len, value } => {
                 if form < TOTAL || form == LENT {
-                    key_line(name, w, len, value);
+                    key_line(rt, name, w, len, value);
                 }
             }
             Answer::Nothing => {
-                ending(name, form, keys, moves);
+                ending(rt, name, form, keys, moves);
                 return;
             }
             Answer::Declined(n) => {
                 if form != STATES {
-                    line(name, b" declined ", n as usize);
+                    line(rt, name, b" declined ", n as usize);
                 }
                 return;
             }
         }
-        keys += 1;
     }
 }
 
 // A placing's number, and where it was not declined the walk's answers.
-fn walked(name: &[u8], form: u8, placed: Placed, image: &[u8]) {
-    line(name, b" placed ", placed.code as usize);
+fn walked(rt: &impl Print, name: &[u8], form: u8, placed: Placed, image: &[u8]) {
+    line(rt, name, b" placed ", placed.code as usize);
     if placed.code == 0 {
         let walk = placed.walk;
-        answers(name, form, walk, image);
+        answers(rt, name, form, walk, image);
     }
 }
 
 // A walk in form 5, with an empty line after it.
-fn states(placed: Placed, image: &[u8]) {
+fn states(rt: &impl Print, placed: Placed, image: &[u8]) {
     if placed.code == 0 {
         let walk = placed.walk;
-        answers(b"", STATES, walk, image);
+        answers(rt, b"", STATES, walk, image);
     } else {
-        line(b"", b"error ", placed.code as usize);
+        line(rt, b"", b"error ", placed.code as usize);
     }
-    put(b"\n");
+    put(rt, b"\n");
 }
 
 // Whether the check accepts an image.
-fn is_accepted(name: &[u8], form: u8, image: &[u8]) -> bool {
+fn is_accepted(rt: &impl Print, name: &[u8], form: u8, image: &[u8]) -> bool {
     let checked = verify::check_image(image);
     match checked {
         Checked::Accepted {
@@ -233,58 +232,67 @@ fn is_accepted(name: &[u8], form: u8, image: &[u8]) -> bool {
             value_slots,
             sub_layers,
         } => {
-            put(name);
-            put(b" accepted");
+            put(rt, name);
+            put(rt, b" accepted");
             if form == CHECK {
-                item(b" ", leaves as u64);
-                item(b" ", value_slots as u64);
-                item(b" ", sub_layers as u64);
+                item(rt, b" ", leaves as u64);
+                item(rt, b" ", value_slots as u64);
+                item(rt, b" ", sub_layers as u64);
             }
-            put(b"\n");
+            put(rt, b"\n");
             true
         }
         Checked::Declined(n) => {
-            line(name, b" declined ", n as usize);
+            line(rt, name, b" declined ", n as usize);
             false
         }
     }
 }
 
 // The bound test: the side, and the comparisons.
-fn tested(name: &[u8], kind: u8, bound: &[u8], key: &[u8]) {
+fn tested(rt: &impl Print, name: &[u8], kind: u8, bound: &[u8], key: &[u8]) {
     let t = range_bound::test(kind, bound, key);
     let side = t.side;
     match side {
-        Side::Inside => line(name, b" inside ", t.comparisons),
-        Side::AtEnd => line(name, b" at end ", t.comparisons),
-        Side::Past => line(name, b" past ", t.comparisons),
+        Side::Inside => line(rt, name, b" inside ", t.comparisons),
+        Side::AtEnd => line(rt, name, b" at end ", t.comparisons),
+        Side::Past => line(rt, name, b" past ", t.comparisons),
     }
 }
 
 // The answers of a request in its form, with the start mode and the bound's kind.
-fn request(name: &[u8], form: u8, mode: u8, kind: u8, cursor: &[u8], bound: &[u8], image: &[u8]) {
+fn request(
+    rt: &impl Print,
+    name: &[u8],
+    form: u8,
+    mode: u8,
+    kind: u8,
+    cursor: &[u8],
+    bound: &[u8],
+    image: &[u8],
+) {
     if form == BOUND {
-        tested(name, kind, bound, cursor);
+        tested(rt, name, kind, bound, cursor);
         return;
     }
     if form == CHECK {
-        is_accepted(name, form, image);
+        is_accepted(rt, name, form, image);
         return;
     }
-    if form == TOTAL && !is_accepted(name, form, image) {
+    if form == TOTAL && !is_accepted(rt, name, form, image) {
         return;
     }
     let placed = placed(mode, kind, cursor, bound, image);
     if form == STATES {
-        states(placed, image);
+        states(rt, placed, image);
         return;
     }
-    walked(name, form, placed, image);
+    walked(rt, name, form, placed, image);
 }
 
 // Reads one request and prints its answers; false at the end of the input.
-fn one(image: &mut [u8]) -> bool {
-    let r = requests::read_request(image);
+fn one(rt: &impl Print, input: &mut impl Read, image: &mut [u8]) -> bool {
+    let r = requests::read_request(input, image);
     if !r.more {
         return false;
     }
@@ -292,6 +300,7 @@ fn one(image: &mut [u8]) -> bool {
     let cursor = r.cursor;
     let bound = r.bound;
     request(
+        rt,
         first(&name, r.name_len),
         r.form,
         r.mode,
@@ -303,15 +312,17 @@ fn one(image: &mut [u8]) -> bool {
     true
 }
 
-fn all(image: &mut [u8]) {
-    let mut left = MOST;
-    while 0 < left && one(image) {
-        left -= 1;
+fn all(rt: &impl Print, input: &mut impl Read, image: &mut [u8]) {
+    for _ in 0..MOST {
+        if !one(rt, input, image) {
+            return;
+        }
     }
 }
 
 // Reads requests until the input ends and prints their answers.
-pub fn run() {
-    let mut space = io::large_buffer();
-    all(&mut space);
+pub fn run(rt: &(impl Input + Print)) {
+    let mut input = rt.reader();
+    let mut space = [0u8; 65536];
+    all(rt, &mut input, &mut space);
 }

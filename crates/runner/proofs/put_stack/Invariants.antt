@@ -1,0 +1,6 @@
+-- The loop over the stack's entries ends: the measure is how many of the 31 are left.
+use Rattle.base.specs.Kit.{◌-◌}
+use Rattle.runner.proofs.put_stack.Given as goal
+
+abbrev pub decreases-loop-i : goal.decreases-loop-i
+decreases-loop-i g l = 31 - l.i
