@@ -1,6 +1,6 @@
 /* The forward scan of a Masstree image, and the building of one, for C.
  *
- * The library is `target/staticlib/libpunchbronze.a`, which `rt staticlib punchbronze` writes. Behind this header stand proved
+ * The library is `target/staticlib/libpunchbronze.a`, which `tools/staticlib punchbronze` writes. Behind this header stand proved
  * functions and nothing else: crates/punchbronze/src/lib.rt has their contracts, crates/punchbronze/specs/Interface.antt what each
  * call returns and leaves, crates/walk_record/specs/Record.antt the record of a walk, crates/builder/specs/Answer.antt what the
  * builder answers, and crates/c_demands/specs/CDemand.antt what is proved of all steps of a walk together.

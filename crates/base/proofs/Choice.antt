@@ -1,5 +1,6 @@
 -- Laws of `pick`.
-use Rattle.base.specs.Kit.{◌≡◌, refl, sym, ◌∙◌, Bool, true, false, not, ℕ, ◌≤◌, ◌<◌, leb, eqb, not-true, not-false, le-leb, lt-leb, eq-eqb, ne_eqb, arith, bool_byte}
+use Rattle.std.specs.Prelude.{◌≡◌, ◌≤◌, ◌<◌}
+use Rattle.base.specs.Kit.{refl, sym, ◌∙◌, Bool, true, false, not, ℕ, leb, eqb, not-true, not-false, le-leb, lt-leb, eq-eqb, ne_eqb, arith, bool_byte}
 use Rattle.base.specs.Pick.{pick}
 
 -- a case split on a test, with what the test says in each case

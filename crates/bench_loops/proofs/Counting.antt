@@ -1,5 +1,6 @@
 -- The counting loops: their invariant, and what each way through a turn says of it; and what the placing's number decides.
-use Rattle.base.specs.Kit.{◌≡◌, refl, ◌∙◌, List, [], ℕ, suc, ◌+◌, ◌-◌, ◌≤◌, ◌<◌, sub-zero, zero-add, arith, length, eq-eqb, ne_eqb}
+use Rattle.std.specs.Prelude.{◌≡◌, ◌+◌, ◌-◌, ◌≤◌, ◌<◌}
+use Rattle.base.specs.Kit.{refl, ◌∙◌, List, [], ℕ, suc, sub-zero, zero-add, arith, length, eq-eqb, ne_eqb}
 use Rattle.base.specs.Pick.{pick}
 use Rattle.base.proofs.Count.{left-more}
 use Rattle.cursor.specs.declared.range_bound.StartMode.TheVariants.{Above}

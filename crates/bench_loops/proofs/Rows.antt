@@ -1,5 +1,6 @@
 -- The loop over rows of names: its invariant, and what a turn says of it.
-use Rattle.base.specs.Kit.{◌≡◌, ap, Bool, List, ℕ, ◌+◌, ◌-◌, ◌*◌, ◌/◌, ◌≤◌, ◌<◌, suc-mul, div-mul-le_self, div-zero, sub-zero, zero-add, arith, length, drop, drop-drop, bool_byte}
+use Rattle.std.specs.Prelude.{◌≡◌, ◌+◌, ◌-◌, ◌*◌, ◌/◌, ◌≤◌, ◌<◌}
+use Rattle.base.specs.Kit.{ap, Bool, List, ℕ, suc-mul, div-mul-le_self, div-zero, sub-zero, zero-add, arith, length, drop, drop-drop, bool_byte}
 use Rattle.base.proofs.Choice.{one_by_test, one_at_most}
 use Rattle.base.proofs.Count.{left-more}
 use Rattle.key.specs.Part.{part}

@@ -1,5 +1,6 @@
 -- What the timed loops count, over any bytes.
-use Rattle.base.specs.Kit.{not, List, [], ℕ, zero, suc, ◌+◌, eqb, length, take, drop}
+use Rattle.std.specs.Prelude.{◌+◌}
+use Rattle.base.specs.Kit.{not, List, [], ℕ, zero, suc, eqb, length, take, drop}
 use Rattle.base.specs.Pick.{pick}
 use Rattle.cursor.specs.RangeBound.{contains}
 use Rattle.cursor.specs.declared.range_bound.StartMode.TheVariants.{Above}

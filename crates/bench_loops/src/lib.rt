@@ -4,7 +4,8 @@
 // each: a choice inside one loop would copy every step's answer once more, and be timed with it.
 #![tactic(auto)]
 
-ghost use Rattle.base.specs.Kit.{◌≡◌, [], ◌/◌, length};
+ghost use Rattle.std.specs.Prelude.{◌≡◌, ◌/◌};
+ghost use Rattle.base.specs.Kit.{[], length};
 ghost use Rattle.cursor.specs.declared.range_bound.StartMode.TheVariants.{Above};
 ghost use Rattle.walk.specs.Placing.{place};
 ghost use Rattle.scan.specs.CodeLoop.{keys_left};

@@ -1,5 +1,6 @@
 -- THE ANSWER, number by number: a sheet that is declined; an image that is too long, or longer than the output; and one that is written.
-use Rattle.base.specs.Kit.{true, false, and-false, ◌≡◌, refl, ap, sym, ◌∙◌, List, ◌++◌, ℕ, ◌+◌, ◌≤◌, ◌<◌, min, arith, leb, length, drop, le-leb, lt-leb, dec_le, take-length}
+use Rattle.std.specs.Prelude.{◌≡◌, ◌++◌, ◌+◌, ◌≤◌, ◌<◌}
+use Rattle.base.specs.Kit.{true, false, and-false, refl, ap, sym, ◌∙◌, List, ℕ, min, arith, leb, length, drop, le-leb, lt-leb, dec_le, take-length}
 use Rattle.base.specs.Pick.{pick}
 use Rattle.layering.specs.Keys.{Pair}
 use Rattle.layering.specs.Accepted.{end_n}

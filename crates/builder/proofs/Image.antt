@@ -1,6 +1,7 @@
 -- THE IMAGE, in output of just its length: the first eight bytes, the layers, and the trailer, one behind the other, are all of it.
 -- Assumes of the station lines what the top layer is given.
-use Rattle.base.specs.Kit.{◌≡◌, refl, ap, ap₂, sym, ◌∙◌, subst, List, [], ◌++◌, append_assoc, append-nil, ℕ, ◌+◌, ◌≤◌, arith, length, drop, length-append, flatten, drop_of_length-le, take-length}
+use Rattle.std.specs.Prelude.{◌≡◌, ◌++◌, ◌+◌, ◌≤◌}
+use Rattle.base.specs.Kit.{refl, ap, ap₂, sym, ◌∙◌, subst, List, [], append_assoc, append-nil, ℕ, arith, length, drop, length-append, flatten, drop_of_length-le, take-length}
 use Rattle.layering.specs.Tree.{Node, leaf, internode, beyond}
 use Rattle.layering.specs.Keys.{Pair, leaves_n}
 use Rattle.layering.specs.Accepted.{end_n}

@@ -1,7 +1,8 @@
 -- WHAT THE BUILDER ANSWERS (02 [2]: "Read sheet edition 1, write an image"; "Errors: 31 a line not in the sheet's form or a wrong key count,
 -- 32 key over 256 bytes or not above the one before, 33 output shorter than the image or image over 16,777,216; in that order over the whole
 -- sheet, nothing written, length 0"), and the output after it ("Lent output past the written length keeps its bytes", 01).
-use Rattle.base.specs.Kit.{Bool, ◌&&◌, List, ℕ, leb, length}
+use Rattle.std.specs.Prelude.{◌&&◌}
+use Rattle.base.specs.Kit.{Bool, List, ℕ, leb, length}
 use Rattle.base.specs.Pick.{pick}
 use Rattle.reading.specs.Fault.{Answer, fault, sheet, read_sheet}
 use Rattle.building.specs.Build.{build}

@@ -5,7 +5,8 @@
 // what it is lent.
 #![tactic(auto)]
 
-ghost use Rattle.base.specs.Kit.{◌≡◌, ◌+◌, ◌≤◌, length, drop};
+ghost use Rattle.std.specs.Prelude.{◌≡◌, ◌+◌, ◌≤◌};
+ghost use Rattle.base.specs.Kit.{length, drop};
 ghost use Rattle.layering.specs.Accepted.{end_n};
 ghost use Rattle.reading.specs.Pairs.{pairs_in};
 ghost use Rattle.building.specs.Shape.{shape};

@@ -1,5 +1,6 @@
 -- Keys each of which is above the one before (02 [2]: "not above the one before" is declined) ascend as `Ascending` says. Assumes nothing.
-use Rattle.base.specs.Kit.{◌≡◌, List, [], ◌∷◌}
+use Rattle.std.specs.Prelude.{◌≡◌, ◌∷◌}
+use Rattle.base.specs.Kit.{List, []}
 use Rattle.key.specs.Order.{byte_order}
 use Rattle.key.specs.declared.Ordering.TheVariants.{Less}
 use Rattle.key.proofs.Order.{lex_trans, lex_cmp, cmp_less}

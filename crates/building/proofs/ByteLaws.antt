@@ -1,5 +1,6 @@
 -- Bytes and byte order, as the image that is built wants them: what is filled with zeros, and a number of bytes. Assumes nothing.
-use Rattle.base.specs.Kit.{◌≡◌, refl, ap, sym, ◌∙◌, List, [], ◌∷◌, ◌++◌, ℕ, zero, suc, ◌-◌, ◌≤◌, ◌<◌, ◌^◌, arith, length, get_or, replicate}
+use Rattle.std.specs.Prelude.{◌≡◌, ◌∷◌, ◌++◌, ◌-◌, ◌≤◌, ◌<◌, ◌^◌}
+use Rattle.base.specs.Kit.{refl, ap, sym, ◌∙◌, List, [], ℕ, zero, suc, arith, length, get_or, replicate}
 use Rattle.key.specs.Ikey.{be, ikey_of}
 use Rattle.key.specs.Part.{padded}
 use Rattle.key.proofs.Bytes.{Bytes, bytes-append}

@@ -1,5 +1,6 @@
 -- The worked examples hold, by computation. Assumes nothing.
-use Rattle.base.specs.Kit.{flatten, map, ◌≡◌, refl}
+use Rattle.std.specs.Prelude.{◌≡◌}
+use Rattle.base.specs.Kit.{flatten, map, refl}
 use Rattle.base.specs.Pick.{pick}
 use Rattle.key.specs.Ikey.{be, ikey_of}
 use Rattle.layering.specs.Accepted.{room, end_n, end_k, end_s}

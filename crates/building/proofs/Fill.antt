@@ -1,6 +1,7 @@
 -- LEAVES. What joining slots and filling leaves with whole groups does: pairs and numbers stay, no leaf has more than fifteen slots, and
 -- the leaves' ikeys ascend, each leaf's below the first of the next. Assumes nothing of what the slots are.
-use Rattle.base.specs.Kit.{Bool, true, false, inl, ◌≡◌, refl, ap, sym, ◌∙◌, List, [], ◌∷◌, ◌++◌, append_assoc, ℕ, suc, ◌+◌, ◌-◌, ◌≤◌, ◌<◌, arith, leb, length, leb-true, le-leb}
+use Rattle.std.specs.Prelude.{◌≡◌, ◌∷◌, ◌++◌, ◌+◌, ◌-◌, ◌≤◌, ◌<◌}
+use Rattle.base.specs.Kit.{Bool, true, false, inl, refl, ap, sym, ◌∙◌, List, [], append_assoc, ℕ, suc, arith, leb, length, leb-true, le-leb}
 use Rattle.base.specs.Pick.{pick}
 use Rattle.key.specs.Ikey.{ikey_bytes}
 use Rattle.layering.specs.Tree.{Fields, Slots, none, value, layer}

@@ -1,6 +1,7 @@
 -- GROUPS. The groups of an ascending list are its pairs of one ikey each, in order; and what the slots of one group are. Assumes that the
 -- layers below are right (the parameter `subs`).
-use Rattle.base.specs.Kit.{Bool, true, false, inl, inr, ◌≢◌, ◌≡◌, refl, ap, ap₂, sym, ◌∙◌, subst, List, [], ◌∷◌, ◌++◌, map, flatten, append_assoc, append-nil, ℕ, suc, ◌+◌, ◌^◌, ◌≤◌, ◌<◌, min, arith, leb, eqb, length, take, drop, length-drop, take-append-drop, leb-true, leb-false, eqb-true, eqb-false, ne_eqb}
+use Rattle.std.specs.Prelude.{◌≢◌, ◌≡◌, ◌∷◌, ◌++◌, ◌+◌, ◌^◌, ◌≤◌, ◌<◌}
+use Rattle.base.specs.Kit.{Bool, true, false, inl, inr, refl, ap, ap₂, sym, ◌∙◌, subst, List, [], map, flatten, append_assoc, append-nil, ℕ, suc, min, arith, leb, eqb, length, take, drop, length-drop, take-append-drop, leb-true, leb-false, eqb-true, eqb-false, ne_eqb}
 use Rattle.base.specs.Pick.{pick}
 use Rattle.key.specs.Order.{byte_order}
 use Rattle.key.specs.declared.Ordering.TheVariants.{Less}

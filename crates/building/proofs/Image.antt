@@ -1,6 +1,7 @@
 -- THE IMAGE OF A TREE: its length and trailer, and that the tree it holds is the one that was written. Assumes that the tree can be written
 -- (PlainN), lies in post-order from byte 8 on, and that the image is no longer than 01 allows.
-use Rattle.base.specs.Kit.{◌≡◌, refl, sym, ◌∙◌, List, [], ◌∷◌, flatten, ℕ, ◌+◌, ◌%◌, ◌-◌, ◌^◌, ◌≤◌, ◌<◌, mod-eq_of_lt, arith, eqb, length, get_or, take, replicate, length-append, length-replicate}
+use Rattle.std.specs.Prelude.{◌≡◌, ◌∷◌, ◌+◌, ◌%◌, ◌-◌, ◌^◌, ◌≤◌, ◌<◌}
+use Rattle.base.specs.Kit.{refl, sym, ◌∙◌, List, [], flatten, ℕ, mod-eq_of_lt, arith, eqb, length, get_or, take, replicate, length-append, length-replicate}
 use Rattle.base.proofs.Choice.{pick_ind}
 use Rattle.node.specs.Le.{u64_at}
 use Rattle.node.specs.Layout.{root_offset, key_count, stated_length, edition}

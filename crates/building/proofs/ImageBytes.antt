@@ -1,5 +1,6 @@
 -- The image that is built has bytes only. Assumes that suffixes have.
-use Rattle.base.specs.Kit.{List, [], ◌∷◌, map, flatten, ℕ, zero, suc, ◌+◌, ◌/◌, ◌-◌, arith, eqb, length, replicate}
+use Rattle.std.specs.Prelude.{◌∷◌, ◌+◌, ◌/◌, ◌-◌}
+use Rattle.base.specs.Kit.{List, [], map, flatten, ℕ, zero, suc, arith, eqb, length, replicate}
 use Rattle.base.proofs.Choice.{pick_ind}
 use Rattle.key.proofs.Bytes.{Bytes, bytes-append}
 use Rattle.building.proofs.ByteLaws.{bytes-zeros}

@@ -1,6 +1,7 @@
 -- What the ikeys and the lengths of two keys in byte order say of one another, and how a key is made of its ikey's bytes and the rest.
 -- Assumes that keys have bytes only.
-use Rattle.base.specs.Kit.{◌≡◌, ap, sym, ◌∙◌, subst, List, ℕ, ◌≤◌, ◌<◌, arith, length, get_or, take, drop, length-take, List·getD-eq-default, take-take, get_or-take, length-take-le, dec_lt, take-append-drop}
+use Rattle.std.specs.Prelude.{◌≡◌, ◌≤◌, ◌<◌}
+use Rattle.base.specs.Kit.{ap, sym, ◌∙◌, subst, List, ℕ, arith, length, get_or, take, drop, length-take, List·getD-eq-default, take-take, get_or-take, length-take-le, dec_lt, take-append-drop}
 use Rattle.key.specs.Order.{byte_order}
 use Rattle.key.specs.declared.Ordering.TheVariants.{Less}
 use Rattle.key.specs.Ikey.{be, ikey_of, ikey_bytes}

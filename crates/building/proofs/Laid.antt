@@ -1,6 +1,7 @@
 -- A LEAF, written part by part. Laying parts one behind the other is laying them all; what is then in the output, with the record behind it
 -- and the previous leaf's `next` set, is the leaf written. Assumes that the slots can be written (PlainS), and that there is room.
-use Rattle.base.specs.Kit.{◌≡◌, refl, ap, sym, ◌∙◌, List, [], ◌∷◌, ◌++◌, append_assoc, append-nil, ℕ, suc, ◌+◌, ◌≤◌, ◌^◌, arith, length, paste-zero, length-append}
+use Rattle.std.specs.Prelude.{◌≡◌, ◌∷◌, ◌++◌, ◌+◌, ◌≤◌, ◌^◌}
+use Rattle.base.specs.Kit.{refl, ap, sym, ◌∙◌, List, [], append_assoc, append-nil, ℕ, suc, arith, length, paste-zero, length-append}
 use Rattle.sheet.proofs.Paste.{paste-append}
 use Rattle.layering.specs.Tree.{Fields, Slots, none, value, layer}
 use Rattle.layering.specs.Accepted.{room, end_n, end_s}

@@ -1,6 +1,7 @@
 -- LAYERS. Proved: the layer that is built of an ascending list of pairs is right in every point of `LayerOk`. Assumes that its keys fit
 -- the layers left, and that it has no more leaves than an image holds.
-use Rattle.base.specs.Kit.{◌≡◌, refl, ap, ap₂, sym, ◌∙◌, subst, List, [], ◌∷◌, ◌++◌, map, flatten, ℕ, zero, suc, ◌+◌, ◌^◌, ◌≤◌, ◌<◌, arith, length, length-append, length-map}
+use Rattle.std.specs.Prelude.{◌≡◌, ◌∷◌, ◌++◌, ◌+◌, ◌^◌, ◌≤◌, ◌<◌}
+use Rattle.base.specs.Kit.{refl, ap, ap₂, sym, ◌∙◌, subst, List, [], map, flatten, ℕ, zero, suc, arith, length, length-append, length-map}
 use Rattle.base.specs.Pick.{pick}
 use Rattle.key.specs.Ikey.{ikey_of}
 use Rattle.key.proofs.Bytes.{Bytes}

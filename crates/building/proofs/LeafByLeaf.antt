@@ -1,6 +1,7 @@
 -- LEAF BY LEAF. Filling leaves, the way that code goes: the groups that fit the leaf at hand, and then the leaves of the groups that are
 -- left. Assumes that no group has more than fifteen slots.
-use Rattle.base.specs.Kit.{Bool, true, false, ◌≡◌, refl, ap, sym, ◌∙◌, List, [], ◌∷◌, ℕ, zero, suc, ◌-◌, leb, drop, drop-nil, le-leb}
+use Rattle.std.specs.Prelude.{◌≡◌, ◌∷◌, ◌-◌}
+use Rattle.base.specs.Kit.{Bool, true, false, refl, ap, sym, ◌∙◌, List, [], ℕ, zero, suc, leb, drop, drop-nil, le-leb}
 use Rattle.base.specs.Pick.{pick}
 use Rattle.base.proofs.Choice.{pick_ind}
 use Rattle.layering.specs.Tree.{Slots, none}

@@ -1,6 +1,7 @@
 -- INTERNODES. What a level of internodes over some nodes, and all levels up to the root, do: pairs and leaves stay, the ranges hold, and
 -- sixteen times the nodes want one more internode on a path. Assumes nothing of what the nodes are.
-use Rattle.base.specs.Kit.{◌≡◌, refl, ap, sym, ◌∙◌, List, [], ◌∷◌, ◌++◌, append_assoc, append-nil, ℕ, zero, suc, ◌+◌, ◌*◌, ◌-◌, ◌^◌, ◌≤◌, ◌<◌, arith, length, take, drop, length-append, length-take, length-drop, take-append-drop}
+use Rattle.std.specs.Prelude.{◌≡◌, ◌∷◌, ◌++◌, ◌+◌, ◌*◌, ◌-◌, ◌^◌, ◌≤◌, ◌<◌}
+use Rattle.base.specs.Kit.{refl, ap, sym, ◌∙◌, List, [], append_assoc, append-nil, ℕ, zero, suc, arith, length, take, drop, length-append, length-take, length-drop, take-append-drop}
 use Rattle.base.specs.Pick.{pick}
 use Rattle.node.specs.Version.{bit, at_rest}
 use Rattle.layering.specs.Tree.{Node, leaf, internode, beyond, Kids, last, more}

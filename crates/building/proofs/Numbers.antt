@@ -1,5 +1,6 @@
 -- The numbers of a leaf that is built: its permutation, and the bits of its live mask. Assumes nothing.
-use Rattle.base.specs.Kit.{Bool, true, false, ◌≡◌, refl, List, [], ◌∷◌, map, ℕ, zero, suc, ◌+◌, ◌*◌, ◌/◌, ◌%◌, ◌^◌, ◌≤◌, ◌<◌, pow-succ', div-div-eq-div-mul, zero-div, arith, dec_lt, eqb, length, get_or}
+use Rattle.std.specs.Prelude.{◌≡◌, ◌∷◌, ◌+◌, ◌*◌, ◌/◌, ◌%◌, ◌^◌, ◌≤◌, ◌<◌}
+use Rattle.base.specs.Kit.{Bool, true, false, refl, List, [], map, ℕ, zero, suc, pow-succ', div-div-eq-div-mul, zero-div, arith, dec_lt, eqb, length, get_or}
 use Rattle.base.specs.Pick.{pick}
 use Rattle.node.specs.Version.{bit}
 use Rattle.node.specs.Permuter.{slot_at}

@@ -1,5 +1,6 @@
 -- THE ORDER OF CODE, in one layer: which groups a leaf takes, and that all of them can be written. Assumes of the pairs what LayerOk does.
-use Rattle.base.specs.Kit.{◌≡◌, refl, ap, ◌∙◌, List, [], ◌∷◌, map, ℕ, zero, suc, ◌+◌, ◌-◌, ◌≤◌, ◌<◌, arith, leb, length, le-leb, lt-leb, length-map}
+use Rattle.std.specs.Prelude.{◌≡◌, ◌∷◌, ◌+◌, ◌-◌, ◌≤◌, ◌<◌}
+use Rattle.base.specs.Kit.{refl, ap, ◌∙◌, List, [], map, ℕ, zero, suc, arith, leb, length, le-leb, lt-leb, length-map}
 use Rattle.base.specs.Pick.{pick}
 use Rattle.base.proofs.Choice.{pick_ind}
 use Rattle.layering.specs.Tree.{Node, Slots, none}

@@ -1,6 +1,7 @@
 -- THE NEXT LEAF, written later. A subtree's bytes with the leaf behind it at `next` are those with 0 there, and `next` written into its last
 -- leaf. So code may write a leaf before it knows where the next one stands. Assumes that the subtree can be written (PlainN).
-use Rattle.base.specs.Kit.{◌≡◌, refl, ap, ap₂, sym, ◌∙◌, List, [], ◌∷◌, ◌++◌, map, flatten, append_assoc, append-nil, ℕ, ◌+◌, ◌≤◌, arith, length, drop, replicate, length-append, drop_of_length-le, drop-append-add, take-append_seam, take-length}
+use Rattle.std.specs.Prelude.{◌≡◌, ◌∷◌, ◌++◌, ◌+◌, ◌≤◌}
+use Rattle.base.specs.Kit.{refl, ap, ap₂, sym, ◌∙◌, List, [], map, flatten, append_assoc, append-nil, ℕ, arith, length, drop, replicate, length-append, drop_of_length-le, drop-append-add, take-append_seam, take-length}
 use Rattle.layering.specs.Tree.{Fields, LeafHead, InternodeHead, Node, leaf, internode, beyond, Kids, last, more}
 use Rattle.layering.specs.Accepted.{end_n, end_k, end_s}
 use Rattle.building.specs.Build.{first_leaf_k, placed_n, placed_k, placed_s, le_bytes, words, fields_s, mask, suffix_word, leaf_bytes, offset_n, children_k, separators_k, internode_bytes, bytes_n, bytes_k, bytes_s}

@@ -1,6 +1,7 @@
 -- What setting the places of a tree does: the records lie in post-order, the leaves are linked, what can be written still can; and what it
 -- leaves as it was: pairs, numbers, paths, order, ranges and fields. Assumes of the tree only that it can be written (PlainN).
-use Rattle.base.specs.Kit.{◌⊎◌, inl, inr, ◌≡◌, refl, ap, ap₂, sym, ◌∙◌, List, ◌∷◌, ◌++◌, ℕ, suc, ◌+◌, ◌*◌, ◌^◌, ◌≤◌, ◌<◌, arith, length, length-append, eq-eqb, ne_eqb}
+use Rattle.std.specs.Prelude.{◌⊎◌, ◌≡◌, ◌∷◌, ◌++◌, ◌+◌, ◌*◌, ◌^◌, ◌≤◌, ◌<◌}
+use Rattle.base.specs.Kit.{inl, inr, refl, ap, ap₂, sym, ◌∙◌, List, ℕ, suc, arith, length, length-append, eq-eqb, ne_eqb}
 use Rattle.base.specs.Pick.{pick}
 use Rattle.key.specs.Ikey.{ikey_bytes}
 use Rattle.layering.specs.Tree.{Fields, Node, leaf, internode, beyond, Kids, last, more, Slots, none, value, layer}

@@ -1,6 +1,7 @@
 -- Trees that can be written: their numbers fit, and their records are within 01's limits. And how many bytes they take.
 -- Assumes nothing.
-use Rattle.base.specs.Kit.{Bool, true, false, ◌≡◌, refl, ap, List, [], ◌++◌, flatten, ℕ, suc, ◌+◌, ◌*◌, ◌/◌, ◌-◌, ◌^◌, ◌≤◌, ◌<◌, arith, eqb, length, replicate, length-append, length-replicate}
+use Rattle.std.specs.Prelude.{◌≡◌, ◌++◌, ◌+◌, ◌*◌, ◌/◌, ◌-◌, ◌^◌, ◌≤◌, ◌<◌}
+use Rattle.base.specs.Kit.{Bool, true, false, refl, ap, List, [], flatten, ℕ, suc, arith, eqb, length, replicate, length-append, length-replicate}
 use Rattle.base.specs.Pick.{pick}
 use Rattle.key.proofs.Bytes.{Bytes}
 use Rattle.layering.specs.Tree.{Fields, LeafHead, InternodeHead, Node, leaf, internode, beyond, Kids, last, more, Slots, none, value, layer}

@@ -1,6 +1,7 @@
 -- PIECES IN A BUFFER: two that do not meet may be written in either order; one within another may be written into it before; two behind
 -- one another are one. Assumes nothing.
-use Rattle.base.specs.Kit.{◌≡◌, ap, ap₂, sym, ◌∙◌, List, ◌++◌, append_assoc, ℕ, ◌+◌, ◌≤◌, add-zero, le_refl, arith, length, take, drop, take-append-drop, take-append-add, drop-append-add, take-append-le, drop-append-le, take-length, length-take-le, length-paste}
+use Rattle.std.specs.Prelude.{◌≡◌, ◌++◌, ◌+◌, ◌≤◌}
+use Rattle.base.specs.Kit.{ap, ap₂, sym, ◌∙◌, List, append_assoc, ℕ, add-zero, le_refl, arith, length, take, drop, take-append-drop, take-append-add, drop-append-add, take-append-le, drop-append-le, take-length, length-take-le, length-paste}
 use Rattle.building.specs.CodeWritten.{put}
 
 pub put-length : (d s : List ℕ) (at : ℕ) → at + length s ≤ length d → length (put d at s) ≡ length d

@@ -1,6 +1,7 @@
 -- READING BACK. Proved: where the bytes of a tree stand in an image, the tree at its offset is that tree. Assumes that the tree can be
 -- written (PlainN), lies in post-order, and that the image is no longer than 01 allows.
-use Rattle.base.specs.Kit.{Bool, true, false, ◌≡◌, refl, ap, ap₂, sym, ◌∙◌, List, [], ◌∷◌, ◌++◌, ℕ, zero, suc, ◌+◌, ◌%◌, ◌-◌, ◌^◌, ◌≤◌, ◌<◌, mod-eq_of_lt, arith, eqb, length, get_or, replicate, length-append, get_or_at, append_snoc, eqb-true, eqb-false, le-leb, lt-leb}
+use Rattle.std.specs.Prelude.{◌≡◌, ◌∷◌, ◌++◌, ◌+◌, ◌%◌, ◌-◌, ◌^◌, ◌≤◌, ◌<◌}
+use Rattle.base.specs.Kit.{Bool, true, false, refl, ap, ap₂, sym, ◌∙◌, List, [], ℕ, zero, suc, mod-eq_of_lt, arith, eqb, length, get_or, replicate, length-append, get_or_at, append_snoc, eqb-true, eqb-false, le-leb, lt-leb}
 use Rattle.base.specs.Pick.{pick}
 use Rattle.key.specs.Part.{part}
 use Rattle.node.specs.Version.{bit}

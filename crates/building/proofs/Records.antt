@@ -1,5 +1,6 @@
 -- What is read of a record that was written: each field of a leaf and of an internode. Assumes nothing.
-use Rattle.base.specs.Kit.{false, ◌≡◌, refl, ap, sym, ◌∙◌, List, [], ◌∷◌, ◌++◌, map, flatten, ℕ, zero, suc, ◌+◌, ◌*◌, ◌%◌, ◌^◌, ◌≤◌, ◌<◌, mod-eq_of_lt, arith, length, get_or, take, replicate, length-append, length-replicate}
+use Rattle.std.specs.Prelude.{◌≡◌, ◌∷◌, ◌++◌, ◌+◌, ◌*◌, ◌%◌, ◌^◌, ◌≤◌, ◌<◌}
+use Rattle.base.specs.Kit.{false, refl, ap, sym, ◌∙◌, List, [], map, flatten, ℕ, zero, suc, mod-eq_of_lt, arith, length, get_or, take, replicate, length-append, length-replicate}
 use Rattle.key.specs.Part.{part}
 use Rattle.node.specs.Le.{le, u16_at, u32_at, u64_at}
 use Rattle.node.specs.Permuter.{slot_at}

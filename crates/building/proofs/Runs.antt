@@ -1,6 +1,7 @@
 -- GROUP BY GROUP, the way that code goes: the first group is the pairs that have the first pair's ikey, the others are those of the rest;
 -- and a group's slots are counted from the lengths of its keys. Assumes nothing.
-use Rattle.base.specs.Kit.{Bool, true, false, ◌≡◌, refl, ap, sym, ◌∙◌, List, [], ◌∷◌, ℕ, suc, leb, eqb, length, eqb-true}
+use Rattle.std.specs.Prelude.{◌≡◌, ◌∷◌}
+use Rattle.base.specs.Kit.{Bool, true, false, refl, ap, sym, ◌∙◌, List, [], ℕ, suc, leb, eqb, length, eqb-true}
 use Rattle.base.specs.Pick.{pick}
 use Rattle.key.specs.Ikey.{ikey_of}
 use Rattle.layering.specs.Tree.{Node, value}

@@ -1,7 +1,8 @@
 -- AN INTERNODE CHILD BY CHILD. The output once a first child, the subtrees behind it and their internode are written one after the other is
 -- that with the internode's subtree written; the place behind it, its record, its last leaf and its first ikey. The laws about what is
 -- written assume that the children can be written (PlainN) and that the output has room; the others assume nothing.
-use Rattle.base.specs.Kit.{Bool, true, false, ◌≡◌, refl, ap, ap₂, ◌∙◌, List, [], ◌∷◌, map, ℕ, ◌+◌, ◌^◌, ◌≤◌, ◌<◌, arith, eqb, eqb-false, length}
+use Rattle.std.specs.Prelude.{◌≡◌, ◌∷◌, ◌+◌, ◌^◌, ◌≤◌, ◌<◌}
+use Rattle.base.specs.Kit.{Bool, true, false, refl, ap, ap₂, ◌∙◌, List, [], map, ℕ, arith, eqb, eqb-false, length}
 use Rattle.base.specs.Pick.{pick}
 use Rattle.layering.specs.Tree.{Node, leaf, internode, beyond, Kids, last, more, Slots, none, value, layer}
 use Rattle.layering.specs.Accepted.{end_n, end_k}

@@ -1,7 +1,8 @@
 -- SIZES, as a first pass can count them without building anything: a layer takes the room of its groups' suffixes and sub-layers, 400 bytes
 -- for each leaf and 256 for each internode; the leaves are counted by the groups' slots alone, the internodes by the leaves alone.
 -- Assumes nothing of what the slots are.
-use Rattle.base.specs.Kit.{Bool, true, false, ◌≡◌, refl, ap, ap₂, ◌∙◌, List, [], ◌∷◌, ◌++◌, map, ℕ, zero, suc, ◌+◌, ◌*◌, ◌/◌, ◌-◌, ◌≤◌, ◌<◌, arith, leb, length, take, drop, length-drop, length-map, take-append-drop, lt-leb}
+use Rattle.std.specs.Prelude.{◌≡◌, ◌∷◌, ◌++◌, ◌+◌, ◌*◌, ◌/◌, ◌-◌, ◌≤◌, ◌<◌}
+use Rattle.base.specs.Kit.{Bool, true, false, refl, ap, ap₂, ◌∙◌, List, [], map, ℕ, zero, suc, arith, leb, length, take, drop, length-drop, length-map, take-append-drop, lt-leb}
 use Rattle.base.specs.Pick.{pick}
 use Rattle.layering.specs.Tree.{Node, leaf, internode, beyond, Kids, last, more, Slots, none, value, layer}
 use Rattle.layering.specs.Keys.{Pair}

@@ -1,6 +1,7 @@
 -- Bytes that stand somewhere in an image, and what is read there: parts of them, little-endian numbers, rows of words.
 -- Assumes nothing.
-use Rattle.base.specs.Kit.{◌≡◌, refl, ap, sym, ◌∙◌, List, [], ◌∷◌, ◌++◌, flatten, ℕ, zero, suc, ◌+◌, ◌*◌, ◌/◌, ◌%◌, ◌^◌, ◌≤◌, ◌<◌, pow-succ', div-add-mod', div-div-eq-div-mul, mul_comm, arith, length, get_or, take, drop, length-append, length-take, length-drop, List·getD-append, get_or-append-add, ext_get_or, get_or-take, get_or-drop}
+use Rattle.std.specs.Prelude.{◌≡◌, ◌∷◌, ◌++◌, ◌+◌, ◌*◌, ◌/◌, ◌%◌, ◌^◌, ◌≤◌, ◌<◌}
+use Rattle.base.specs.Kit.{refl, ap, sym, ◌∙◌, List, [], flatten, ℕ, zero, suc, pow-succ', div-add-mod', div-div-eq-div-mul, mul_comm, arith, length, get_or, take, drop, length-append, length-take, length-drop, List·getD-append, get_or-append-add, ext_get_or, get_or-take, get_or-drop}
 use Rattle.key.specs.Part.{part}
 use Rattle.node.specs.Le.{le}
 use Rattle.building.specs.Build.{le_bytes, words}

@@ -1,7 +1,8 @@
 -- THE THEOREMS. The image that is built from an ascending list of pairs holds exactly those pairs; it obeys 01's rules, so the check accepts
 -- it, with the tree's three numbers. Assumes of the pairs that their keys ascend strictly, have at most 256 bytes, and bytes only, that their
 -- values are below 2^64, and that the image is no longer than 01 allows.
-use Rattle.base.specs.Kit.{◌≡◌, refl, ap, sym, ◌∙◌, subst, List, [], ◌∷◌, map, ℕ, ◌+◌, ◌-◌, ◌^◌, ◌≤◌, ◌<◌, arith, length, get_or}
+use Rattle.std.specs.Prelude.{◌≡◌, ◌∷◌, ◌+◌, ◌-◌, ◌^◌, ◌≤◌, ◌<◌}
+use Rattle.base.specs.Kit.{refl, ap, sym, ◌∙◌, subst, List, [], map, ℕ, arith, length, get_or}
 use Rattle.key.proofs.Bytes.{Bytes}
 use Rattle.building.proofs.ByteLaws.{bytes-at}
 use Rattle.layering.specs.Tree.{tree_of}

@@ -1,6 +1,7 @@
 -- INTERNODES FROM THE TOP. The same root, made the way that code goes which has no room for a level: a subtree of height h + 1 is one of
 -- height h and up to fifteen more beside it. Assumes nothing of what the nodes are.
-use Rattle.base.specs.Kit.{◌≡◌, refl, ap, ap₂, sym, ◌∙◌, List, [], ◌∷◌, ℕ, zero, suc, ◌+◌, ◌*◌, ◌^◌, ◌≤◌, ◌<◌, pow-succ', one-le-pow, arith, length, take, drop, length-drop, drop-drop, drop-nil}
+use Rattle.std.specs.Prelude.{◌≡◌, ◌∷◌, ◌+◌, ◌*◌, ◌^◌, ◌≤◌, ◌<◌}
+use Rattle.base.specs.Kit.{refl, ap, ap₂, sym, ◌∙◌, List, [], ℕ, zero, suc, pow-succ', one-le-pow, arith, length, take, drop, length-drop, drop-drop, drop-nil}
 use Rattle.layering.specs.Tree.{Node}
 use Rattle.building.specs.Shape.{internode_of, level_over, root_over}
 use Rattle.building.specs.CodeOrder.{head_n, siblings, tower}

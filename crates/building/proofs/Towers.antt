@@ -1,6 +1,7 @@
 -- TOWERS: subtrees of one height over some nodes can be written where the nodes can; how many there are, where they end, and the height of a
 -- layer's root. The laws about what can be written assume it of the nodes; the others assume nothing of them.
-use Rattle.base.specs.Kit.{◌≡◌, refl, ap, ◌∙◌, ◌⊎◌, inl, inr, List, [], ◌∷◌, ℕ, zero, suc, ◌+◌, ◌*◌, ◌^◌, ◌≤◌, ◌<◌, add-zero, zero-add, one-le-pow, eq-or-lt_of_le, arith, length, drop, drop-drop, dec_le}
+use Rattle.std.specs.Prelude.{◌≡◌, ◌⊎◌, ◌∷◌, ◌+◌, ◌*◌, ◌^◌, ◌≤◌, ◌<◌}
+use Rattle.base.specs.Kit.{refl, ap, ◌∙◌, inl, inr, List, [], ℕ, zero, suc, add-zero, zero-add, one-le-pow, eq-or-lt_of_le, arith, length, drop, drop-drop, dec_le}
 use Rattle.layering.specs.Tree.{Node, leaf, internode, beyond, Kids, last, more, Slots, none, value, layer}
 use Rattle.layering.specs.Keys.{leaves_n, leaves_k, leaves_s}
 use Rattle.layering.specs.Accepted.{room, end_n, end_k, end_s}

@@ -1,7 +1,8 @@
 -- WRITING IN ORDER. What is in the output once a subtree is written behind a layer's last leaf, and how that is made: a first child, then
 -- the children behind it, then the internode. These are the steps of code that writes each record once, in post-order, and sets the
 -- previous leaf's `next` when it comes to a leaf. Assumes that the tree can be written (PlainN), and that the output has room for it.
-use Rattle.base.specs.Kit.{Bool, true, false, ◌≡◌, refl, ap, ap₂, sym, ◌∙◌, List, ◌++◌, ℕ, ◌+◌, ◌≤◌, ◌<◌, arith, eqb, length, length-append, ne_eqb, eqb-false}
+use Rattle.std.specs.Prelude.{◌≡◌, ◌++◌, ◌+◌, ◌≤◌, ◌<◌}
+use Rattle.base.specs.Kit.{Bool, true, false, refl, ap, ap₂, sym, ◌∙◌, List, ℕ, arith, eqb, length, length-append, ne_eqb, eqb-false}
 use Rattle.base.specs.Pick.{pick}
 use Rattle.sheet.proofs.Paste.{paste-append}
 use Rattle.layering.specs.Tree.{Node, internode, Kids, more, InternodeHead}

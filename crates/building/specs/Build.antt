@@ -1,6 +1,7 @@
 -- The image that is built from a list of pairs (02 [2]): the shape of specs/Shape.antt, its places in post-order from byte 8 on, and the
 -- bytes of its records as 01 lays them out.
-use Rattle.base.specs.Kit.{List, [], ◌∷◌, ◌++◌, map, flatten, ℕ, zero, suc, ◌+◌, ◌*◌, ◌/◌, ◌%◌, ◌-◌, ◌^◌, eqb, length, replicate}
+use Rattle.std.specs.Prelude.{◌∷◌, ◌++◌, ◌+◌, ◌*◌, ◌/◌, ◌%◌, ◌-◌, ◌^◌}
+use Rattle.base.specs.Kit.{List, [], map, flatten, ℕ, zero, suc, eqb, length, replicate}
 use Rattle.base.specs.Pick.{pick}
 use Rattle.layering.specs.Tree.{Fields, LeafHead, InternodeHead, Node, leaf, internode, beyond, Kids, last, more, Slots, none, value, layer}
 use Rattle.layering.specs.Keys.{Pair}

@@ -1,5 +1,6 @@
 -- WHAT A LAYER IS GIVEN, for contracts of code that builds one: keys that fit the layers left, values that fit their word.
-use Rattle.base.specs.Kit.{ℕ, ◌*◌, ◌^◌, ◌≤◌, ◌<◌, length}
+use Rattle.std.specs.Prelude.{◌*◌, ◌^◌, ◌≤◌, ◌<◌}
+use Rattle.base.specs.Kit.{ℕ, length}
 use Rattle.key.proofs.Bytes.{Bytes}
 use Rattle.layering.specs.Keys.{Pair}
 

@@ -1,6 +1,7 @@
 -- A LEAF'S PARTS, as code lays them one behind the other: each suffix or sub-layer from the place reached on, and its slot behind the
 -- slots so far. The laws that join these to a leaf's bytes are in proofs/Laid.antt.
-use Rattle.base.specs.Kit.{List, [], ◌∷◌, ◌++◌, ℕ, ◌+◌}
+use Rattle.std.specs.Prelude.{◌∷◌, ◌++◌, ◌+◌}
+use Rattle.base.specs.Kit.{List, [], ℕ}
 use Rattle.layering.specs.Tree.{Fields, Node, Slots, none, value, layer}
 use Rattle.layering.specs.Accepted.{room, end_n}
 use Rattle.building.specs.Build.{stands_at, start_at, root_at, placed_n, suffix_bytes, bytes_n}

@@ -1,6 +1,7 @@
 -- THE ORDER IN WHICH CODE BUILDS: group by group, leaf by leaf, and internodes from the top, for code that has no room for a level. The laws
 -- that join these to specs/Shape.antt are in proofs/Runs.antt, LeafByLeaf.antt and Tower.antt.
-use Rattle.base.specs.Kit.{List, [], ◌∷◌, ℕ, zero, suc, ◌+◌, ◌-◌, ◌^◌, eqb, leb, drop}
+use Rattle.std.specs.Prelude.{◌∷◌, ◌+◌, ◌-◌, ◌^◌}
+use Rattle.base.specs.Kit.{List, [], ℕ, zero, suc, eqb, leb, drop}
 use Rattle.base.specs.Pick.{pick}
 use Rattle.key.specs.Ikey.{ikey_of}
 use Rattle.layering.specs.Tree.{Node, beyond, Slots, none}

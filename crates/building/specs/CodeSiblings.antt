@@ -1,6 +1,7 @@
 -- SUBTREES SIDE BY SIDE, as code writes them behind the first child of an internode: the output, the place behind them, the layer's last
 -- leaf, and where their records stand. The laws that join these to an internode's bytes are in proofs/Siblings.antt.
-use Rattle.base.specs.Kit.{List, [], ◌∷◌, map, ℕ, ◌+◌, length, replicate, flatten}
+use Rattle.std.specs.Prelude.{◌∷◌, ◌+◌}
+use Rattle.base.specs.Kit.{List, [], map, ℕ, length, replicate, flatten}
 use Rattle.layering.specs.Tree.{Node}
 use Rattle.layering.specs.Accepted.{end_n}
 use Rattle.building.specs.Shape.{first_ikey_n}

@@ -1,5 +1,6 @@
 -- THE OUTPUT WHILE CODE WRITES: a record's bytes in it, the previous leaf's `next`, and a subtree behind a layer's last leaf.
-use Rattle.base.specs.Kit.{List, ◌≡◌, ℕ, ◌+◌, ◌≤◌, eqb, length, paste}
+use Rattle.std.specs.Prelude.{◌≡◌, ◌+◌, ◌≤◌}
+use Rattle.base.specs.Kit.{List, ℕ, eqb, length, paste}
 use Rattle.base.specs.Pick.{pick}
 use Rattle.layering.specs.Tree.{Node, leaf, internode, beyond, Kids, last, more}
 use Rattle.layering.specs.Accepted.{end_n, end_s}

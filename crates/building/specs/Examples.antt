@@ -1,5 +1,6 @@
 -- Worked examples: lists of pairs, and what is read off the images that are built from them.
-use Rattle.base.specs.Kit.{List, [], ◌∷◌, ◌++◌, map, ℕ, zero, suc, ◌+◌, ◌/◌, ◌%◌, length, replicate}
+use Rattle.std.specs.Prelude.{◌∷◌, ◌++◌, ◌+◌, ◌/◌, ◌%◌}
+use Rattle.base.specs.Kit.{List, [], map, ℕ, zero, suc, length, replicate}
 use Rattle.layering.specs.Tree.{Node, leaf, internode, beyond, Kids, last, more, Slots}
 use Rattle.layering.specs.Keys.{Pair}
 use Rattle.building.specs.Shape.{size_s, shape}

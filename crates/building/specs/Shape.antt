@@ -1,6 +1,7 @@
 -- The shape of the tree that is built from a list of pairs (02 [2]: "The shape is fixed"). It is a tree of layering/specs/Tree.antt in
 -- which all places (a record's offset, a leaf's `next`, a suffix's start, a layer's root) are still 0; specs/Build.antt sets them.
-use Rattle.base.specs.Kit.{true, false, List, [], ◌∷◌, map, ℕ, zero, suc, ◌+◌, ◌-◌, ◌^◌, leb, eqb, length, take, drop}
+use Rattle.std.specs.Prelude.{◌∷◌, ◌+◌, ◌-◌, ◌^◌}
+use Rattle.base.specs.Kit.{true, false, List, [], map, ℕ, zero, suc, leb, eqb, length, take, drop}
 use Rattle.base.specs.Pick.{pick}
 use Rattle.key.specs.Ikey.{ikey_of}
 use Rattle.layering.specs.Tree.{Fields, Node, leaf, internode, beyond, Kids, last, more, Slots, none, value, layer}

@@ -1,6 +1,7 @@
 -- WHAT `build` WRITES: where its number is 0 the sheet was taken, and the image of its pairs stands at the front of the output, which keeps
 -- the bytes behind it; else nothing is written, and the length is 0.
-use Rattle.base.specs.Kit.{Bool, true, false, ◌&&◌, true≢false, ◌≡◌, refl, ap, sym, ◌∙◌, List, ℕ, ◌≤◌, leb, length, leb-true, arith}
+use Rattle.std.specs.Prelude.{◌&&◌, ◌≡◌, ◌≤◌}
+use Rattle.base.specs.Kit.{Bool, true, false, true≢false, refl, ap, sym, ◌∙◌, List, ℕ, leb, length, leb-true, arith}
 use Rattle.base.specs.Pick.{pick}
 use Rattle.reading.specs.Form.{Sheet}
 use Rattle.reading.specs.Fault.{Answer, fault, sheet, read_sheet}

@@ -1,5 +1,6 @@
 -- THE THEOREMS of 02 [2] about the definition.
-use Rattle.base.specs.Kit.{◌≡◌, ap, ◌∙◌, List, [], ◌∷◌, ℕ, ◌+◌, ◌*◌, ◌≤◌, ◌<◌, arith, length, get_or}
+use Rattle.std.specs.Prelude.{◌≡◌, ◌∷◌, ◌+◌, ◌*◌, ◌≤◌, ◌<◌}
+use Rattle.base.specs.Kit.{ap, ◌∙◌, List, [], ℕ, arith, length, get_or}
 use Rattle.cursor.specs.declared.range_bound.StartMode.TheVariants.{From}
 use Rattle.key.proofs.Bytes.{bytes_of}
 use Rattle.layering.specs.Keys.{Pair, leaves_n, layers_n, live_pairs}

@@ -1,5 +1,6 @@
 -- Trees A and B of 01 are built byte for byte as the worked examples have them, by computation.
-use Rattle.base.specs.Kit.{◌≡◌, refl, [], ◌∷◌, flatten}
+use Rattle.std.specs.Prelude.{◌≡◌, ◌∷◌}
+use Rattle.base.specs.Kit.{refl, [], flatten}
 use Rattle.base.specs.Pick.{pick}
 use Rattle.key.specs.Ikey.{be, ikey_of}
 use Rattle.layering.specs.Accepted.{room, end_n, end_k, end_s}

@@ -1,5 +1,6 @@
 -- THE SHEET OF AN ACCEPTED IMAGE says its live pairs and its walk's moves, and is read as that.
-use Rattle.base.specs.Kit.{◌≡◌, ap, ◌∙◌, List, [], ℕ, ◌+◌, ◌^◌, ◌<◌, arith, length, get_or}
+use Rattle.std.specs.Prelude.{◌≡◌, ◌+◌, ◌^◌, ◌<◌}
+use Rattle.base.specs.Kit.{ap, ◌∙◌, List, [], ℕ, arith, length, get_or}
 use Rattle.base.specs.Pick.{pick}
 use Rattle.cursor.specs.declared.range_bound.StartMode.TheVariants.{From}
 use Rattle.layering.specs.Keys.{Pair, live_pairs}

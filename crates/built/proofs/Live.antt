@@ -1,6 +1,7 @@
 -- The live pairs of an image that obeys 01's rules are such as a sheet may have: keys of at most 256 bytes, bytes only, that rise, and
 -- values below 2^64. Assumes that the image has bytes only.
-use Rattle.base.specs.Kit.{◌≡◌, refl, subst, true, List, [], ◌∷◌, ◌++◌, ℕ, ◌+◌, ◌^◌, ◌≤◌, ◌<◌, length, get_or, le-leb}
+use Rattle.std.specs.Prelude.{◌≡◌, ◌∷◌, ◌++◌, ◌+◌, ◌^◌, ◌≤◌, ◌<◌}
+use Rattle.base.specs.Kit.{refl, subst, true, List, [], ℕ, length, get_or, le-leb}
 use Rattle.base.proofs.Choice.{pick_ind}
 use Rattle.key.specs.Ikey.{ikey_bytes}
 use Rattle.key.specs.Order.{byte_order}

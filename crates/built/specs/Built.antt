@@ -1,5 +1,6 @@
 -- WHAT 02 [2] PROMISES of the image that is built from a sheet: "The check accepts the result, and walking from "" gives the sheet's pairs."
-use Rattle.base.specs.Kit.{◌≡◌, List, [], ℕ, ◌+◌, ◌*◌, ◌≤◌, ◌<◌, length, get_or}
+use Rattle.std.specs.Prelude.{◌≡◌, ◌+◌, ◌*◌, ◌≤◌, ◌<◌}
+use Rattle.base.specs.Kit.{List, [], ℕ, length, get_or}
 use Rattle.cursor.specs.declared.range_bound.StartMode.{StartMode}
 use Rattle.cursor.specs.declared.range_bound.StartMode.TheVariants.{From}
 use Rattle.layering.specs.Keys.{Pair, leaves_n, layers_n, live_pairs}

@@ -1,7 +1,8 @@
 -- THE THEOREM `c-demand-3`: demand 3 over the functions that C calls, for every list of calls of `pb_step` on a record that `pb_place_above`
 -- or `pb_place_from` filled. The idea of the proof: the record reads back as the walk that was placed, each call leaves a record that reads
 -- back as the walk after a step (proofs/Calls.antt), and demand 3 speaks of those steps.
-use Rattle.base.specs.Kit.{◌≡◌, ap, sym, ◌∙◌, Bool, true, List, ℕ, ◌+◌, ◌*◌, ◌≤◌, ◌<◌, arith, length, get_or}
+use Rattle.std.specs.Prelude.{◌≡◌, ◌+◌, ◌*◌, ◌≤◌, ◌<◌}
+use Rattle.base.specs.Kit.{ap, sym, ◌∙◌, Bool, true, List, ℕ, arith, length, get_or}
 use Rattle.base.specs.Pick.{pick}
 use Rattle.base.proofs.Choice.{by_test}
 use Rattle.layering.specs.Sieve.{row_of}

@@ -1,7 +1,8 @@
 -- Calls of `pb_step` follow steps of the walk that the record reads back as. Proved: what a call that meets its contract leaves is `c_step`'s;
 -- that what a list of calls says, costs and carries is what the steps say, cost and carry; and that the calls that step no walk change nothing. A call with
 -- no room for the answer follows a step that is lent another length.
-use Rattle.base.specs.Kit.{◌≡◌, refl, ap, ap₂, sym, ◌∙◌, Bool, true, false, not, and-true, and-false, List, [], ◌∷◌, ◌⊎◌, inr, ℕ, ◌+◌, arith, eqb, length, take, replicate, eqb-true, eqb-false, eq-eqb, ne_eqb}
+use Rattle.std.specs.Prelude.{◌≡◌, ◌∷◌, ◌⊎◌, ◌+◌}
+use Rattle.base.specs.Kit.{refl, ap, ap₂, sym, ◌∙◌, Bool, true, false, not, and-true, and-false, List, [], inr, ℕ, arith, eqb, length, take, replicate, eqb-true, eqb-false, eq-eqb, ne_eqb}
 use Rattle.base.specs.Pick.{pick}
 use Rattle.base.proofs.Choice.{pick_ind, by_test}
 use Rattle.walk.specs.Walk.{number_of, nothing_yet, walk_ok, answer_numbers}

@@ -1,6 +1,7 @@
 -- Demand 3 as C meets it: a list of calls of `pb_step` on one record, what they say by the numbers that they leave, and what is due. The row,
 -- what is due of it and what can be said are those of demands/specs/Demand.antt.
-use Rattle.base.specs.Kit.{Bool, false, not, ◌&&◌, List, [], ◌∷◌, ◌⊎◌, ◌≡◌, ℕ, ◌+◌, ◌*◌, ◌≤◌, eqb, length, take, get_or, replicate}
+use Rattle.std.specs.Prelude.{◌&&◌, ◌∷◌, ◌⊎◌, ◌≡◌, ◌+◌, ◌*◌, ◌≤◌}
+use Rattle.base.specs.Kit.{Bool, false, not, List, [], ℕ, eqb, length, take, get_or, replicate}
 use Rattle.base.specs.Pick.{pick}
 use Rattle.layering.specs.Ascending.{Ascending}
 use Rattle.layering.specs.Sieve.{row_of}

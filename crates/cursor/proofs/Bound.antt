@@ -1,5 +1,6 @@
 -- The bound test answers by plain byte order, whatever pieces the keys are compared in.
-use Rattle.base.specs.Kit.{◌≡◌, refl, ◌∙◌, ap, List, true, false, false≢true, Bool, ℕ, eqb, eqb-true}
+use Rattle.std.specs.Prelude.{◌≡◌}
+use Rattle.base.specs.Kit.{refl, ◌∙◌, ap, List, true, false, false≢true, Bool, ℕ, eqb, eqb-true}
 use Rattle.base.specs.Pick.{pick}
 use Rattle.base.proofs.Choice.{pick-map, pick_ind}
 use Rattle.key.specs.Order.{byte_order}

@@ -1,6 +1,7 @@
 -- After `unshift` the cursor stands past the slot of the layer that was left: against any slot of its ikey that goes on, it is not
 -- below. (01, "Wrong turns a porter may take": with length 8 it would be below, and the layer would be entered again.)
-use Rattle.base.specs.Kit.{List, ◌≡◌, ℕ, ◌<◌, arith, lt-leb, le-ltb}
+use Rattle.std.specs.Prelude.{◌≡◌, ◌<◌}
+use Rattle.base.specs.Kit.{List, ℕ, arith, lt-leb, le-ltb}
 use Rattle.base.specs.Pick.{pick}
 use Rattle.key.specs.Order.{order, then}
 use Rattle.key.specs.declared.Ordering.TheVariants.{Equal}

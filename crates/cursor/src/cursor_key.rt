@@ -2,7 +2,8 @@
 //
 // The Rust's CursorKey holds its buffer, and its methods change it in place. Here the buffer is lent to the methods that
 // read or write it, and the three numbers go by value, so that no call copies 256 bytes.
-ghost use Rattle.base.specs.Kit.{◌≡◌, ◌+◌, ◌≤◌, ◌<◌, length};
+ghost use Rattle.std.specs.Prelude.{◌≡◌, ◌+◌, ◌≤◌, ◌<◌};
+ghost use Rattle.base.specs.Kit.{length};
 ghost use Rattle.key.specs.Order.{byte_order};
 ghost use Rattle.cursor.specs.CursorKey.{from_slice, shift_clear, shift, unshift, has_suffix, suffix_of, compare_slot, store_ikey, with_ikey, with_length, store_suffix};
 

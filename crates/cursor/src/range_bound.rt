@@ -1,5 +1,6 @@
 // Where a walk begins and where it ends (the Rust's iterator/range_bound.rs).
-ghost use Rattle.base.specs.Kit.{◌≡◌, ◌≤◌, length};
+ghost use Rattle.std.specs.Prelude.{◌≡◌, ◌≤◌};
+ghost use Rattle.base.specs.Kit.{length};
 ghost use Rattle.cursor.specs.RangeBound.{side_of, tested, contains, bound_of};
 
 use key::Ordering;

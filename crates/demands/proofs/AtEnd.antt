@@ -1,7 +1,8 @@
 -- THE INCLUDED END (02 [12]): over an accepted image the answers are those of the machine that moved on past it, and the moves up to the first
 -- none are fewer exactly where it is handed out. The idea of the proof: both machines stand at one walk until the end is out; then nothing is
 -- left of the row, the walk is ended here, and there it makes a move or more to its none.
-use Rattle.base.specs.Kit.{◌≡◌, refl, ap, sym, ◌∙◌, subst, List, [], ◌∷◌, Bool, true, false, true≢false, false≢true, and-true, inl, inr, ℕ, ◌+◌, ◌≤◌, ◌<◌, arith, length, take, get_or}
+use Rattle.std.specs.Prelude.{◌≡◌, ◌∷◌, ◌+◌, ◌≤◌, ◌<◌}
+use Rattle.base.specs.Kit.{refl, ap, sym, ◌∙◌, subst, List, [], Bool, true, false, true≢false, false≢true, and-true, inl, inr, ℕ, arith, length, take, get_or}
 use Rattle.base.specs.Pick.{pick}
 use Rattle.base.proofs.Choice.{by_test}
 use Rattle.cursor.specs.RangeBound.{at_end, is_last, bound_of}

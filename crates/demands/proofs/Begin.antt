@@ -1,6 +1,7 @@
 -- A fresh walk over an accepted image stands before a row (`begin`), whatever its cursor: what is left of it is what lies
 -- past the start, each key of it has its depth, and the potential is no more than the tree weighs.
-use Rattle.base.specs.Kit.{◌≡◌, refl, ap, sym, ◌∙◌, subst, List, [], ◌++◌, append-nil, true, ℕ, suc, ◌+◌, ◌*◌, ◌-◌, ◌≤◌, ◌<◌, arith, ltb, length, get_or, replicate, lt-ltb, le-ltb}
+use Rattle.std.specs.Prelude.{◌≡◌, ◌++◌, ◌+◌, ◌*◌, ◌-◌, ◌≤◌, ◌<◌}
+use Rattle.base.specs.Kit.{refl, ap, sym, ◌∙◌, subst, List, [], append-nil, true, ℕ, suc, arith, ltb, length, get_or, replicate, lt-ltb, le-ltb}
 use Rattle.base.specs.Pick.{pick}
 use Rattle.base.proofs.Choice.{pick_ind}
 use Rattle.key.specs.Ikey.{ikey_of}

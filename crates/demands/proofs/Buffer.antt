@@ -1,6 +1,7 @@
 -- The cursor's buffer: what its front holds after an ikey, or an ikey and a suffix, is stored at the layer's place; and
 -- what `unshift` reads there. Assumes that they fit into the buffer.
-use Rattle.base.specs.Kit.{◌≡◌, ap, sym, ◌∙◌, subst, List, ◌++◌, append_assoc, ℕ, ◌+◌, ◌-◌, ◌^◌, ◌≤◌, ◌<◌, arith, length, take, drop, take-append-drop, take_all, take-length, length-take-le, length-paste, take-paste, take-take, take_at, drop_at, take-append-add, length-append, paste, take-append-le}
+use Rattle.std.specs.Prelude.{◌≡◌, ◌++◌, ◌+◌, ◌-◌, ◌^◌, ◌≤◌, ◌<◌}
+use Rattle.base.specs.Kit.{ap, sym, ◌∙◌, subst, List, append_assoc, ℕ, arith, length, take, drop, take-append-drop, take_all, take-length, length-take-le, length-paste, take-paste, take-take, take_at, drop_at, take-append-add, length-append, paste, take-append-le}
 use Rattle.key.specs.Ikey.{ikey_of, ikey_bytes}
 use Rattle.key.specs.Part.{part}
 use Rattle.key.proofs.Ikey.{ikey_bytes-length, ikey_of-ikey_bytes}

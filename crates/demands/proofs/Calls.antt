@@ -1,5 +1,6 @@
 -- So many calls over one image, by value, are such as demand 3 speaks of, and all of them are lent its length.
-use Rattle.base.specs.Kit.{◌≡◌, refl, ap, Bool, true, List, ◌∷◌, inl, ℕ, zero, suc, length, replicate, eq-eqb}
+use Rattle.std.specs.Prelude.{◌≡◌, ◌∷◌}
+use Rattle.base.specs.Kit.{refl, ap, Bool, true, List, inl, ℕ, zero, suc, length, replicate, eq-eqb}
 use Rattle.demands.specs.Demand.{calls_of, Lent, own}
 
 module _ (image : List ℕ) where

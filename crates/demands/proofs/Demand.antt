@@ -2,7 +2,8 @@
 -- (01: "Demand 3 is one claim about its whole list, not one for each step"). The idea of the proof: the machine over
 -- the image follows a machine over the row of the tree, whose potential pays for every move (proofs/Follow.antt,
 -- Run.antt and Steps.antt).
-use Rattle.base.specs.Kit.{◌≡◌, List, ℕ, ◌≤◌, ◌<◌, length, get_or}
+use Rattle.std.specs.Prelude.{◌≡◌, ◌≤◌, ◌<◌}
+use Rattle.base.specs.Kit.{List, ℕ, length, get_or}
 use Rattle.layering.specs.Ascending.{Ascending}
 use Rattle.layering.specs.Sieve.{row_of}
 use Rattle.layering.proofs.Asked.{row_in-order}

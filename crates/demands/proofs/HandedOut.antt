@@ -1,7 +1,8 @@
 -- THE THEOREMS of 02 [13] about every list of steps from a fresh placing. `count-is-keys`, over any image and any bytes that the steps are lent:
 -- "After every list of steps from a fresh placing the walk's count equals the number of keys handed out". `carried-due`, over an accepted image:
 -- what each step carries, the depth of its key being that of the layer in which the tree holds it.
-use Rattle.base.specs.Kit.{◌≡◌, refl, ap, sym, subst, List, [], ◌∷◌, not, ℕ, ◌+◌, ◌<◌, arith, eqb, get_or}
+use Rattle.std.specs.Prelude.{◌≡◌, ◌∷◌, ◌+◌, ◌<◌}
+use Rattle.base.specs.Kit.{refl, ap, sym, subst, List, [], not, ℕ, arith, eqb, get_or}
 use Rattle.base.proofs.Choice.{pick_ind}
 use Rattle.layering.specs.Sieve.{row_of}
 use Rattle.verify.specs.Check.{check_number, check}

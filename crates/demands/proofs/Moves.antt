@@ -1,6 +1,7 @@
 -- What a move comes to where no fault is met: over a leaf in order each pass of FindNext is one of six, and the
 -- duplicate check goes by rank. Each lemma takes one test's way through the definitions of the machine.
-use Rattle.base.specs.Kit.{◌≡◌, refl, ap, ◌∙◌, List, Bool, true, false, ℕ, ◌+◌, ◌*◌, ◌≤◌, ◌<◌, min, arith, leb, ltb, le-ltb, le-leb, lt-leb, eq-eqb, ne_eqb}
+use Rattle.std.specs.Prelude.{◌≡◌, ◌+◌, ◌*◌, ◌≤◌, ◌<◌}
+use Rattle.base.specs.Kit.{refl, ap, ◌∙◌, List, Bool, true, false, ℕ, min, arith, leb, ltb, le-ltb, le-leb, lt-leb, eq-eqb, ne_eqb}
 use Rattle.base.specs.Pick.{pick}
 use Rattle.key.specs.Order.{order, then}
 use Rattle.demands.specs.Types.{Ordering, OrderingLess as Less, OrderingEqual as Equal, OrderingGreater as Greater, Slot, CursorPlace, SearchedAt as At, FindNext, Up, ScanCtx, Continue, Duplicate, No, Yes}

@@ -2,7 +2,8 @@
 -- keys past the start. The idea: what the descent and the search in the leaf pass over ranks below the cursor, or with
 -- it where the walk begins above it; a slot of the cursor's own rank is passed over by the duplicate check, and stands
 -- dead.
-use Rattle.base.specs.Kit.{◌≡◌, refl, ◌∙◌, subst, List, [], true, false, ℕ, zero, suc, ◌+◌, ◌*◌, ◌≤◌, ◌<◌, arith, length, replicate, length-replicate}
+use Rattle.std.specs.Prelude.{◌≡◌, ◌+◌, ◌*◌, ◌≤◌, ◌<◌}
+use Rattle.base.specs.Kit.{refl, ◌∙◌, subst, List, [], true, false, ℕ, zero, suc, arith, length, replicate, length-replicate}
 use Rattle.key.specs.Ikey.{ikey_of}
 use Rattle.key.specs.Part.{padded}
 use Rattle.demands.specs.Types.{Ordering, ScanState, ScanStateRetry as Retry, Above, No}

@@ -1,7 +1,8 @@
 -- The descent in an image follows the tree's: `reach` comes to the leaf that `route_n` (layering/proofs/Descent.antt)
 -- comes to, and meets no fault. The idea: a child's record lies before its parent's, so that any count above the offset
 -- suffices.
-use Rattle.base.specs.Kit.{◌≡◌, refl, ap, sym, ◌∙◌, subst, List, Bool, true, false, ℕ, zero, suc, ◌+◌, ◌≤◌, ◌<◌, arith, ltb, eqb, lt-ltb, le-ltb, lt-leb, eqb-true}
+use Rattle.std.specs.Prelude.{◌≡◌, ◌+◌, ◌≤◌, ◌<◌}
+use Rattle.base.specs.Kit.{refl, ap, sym, ◌∙◌, subst, List, Bool, true, false, ℕ, zero, suc, arith, ltb, eqb, lt-ltb, le-ltb, lt-leb, eqb-true}
 use Rattle.base.specs.Pick.{pick}
 use Rattle.node.specs.Layout.{nkeys_at, separator_at, child_at}
 use Rattle.node.specs.Ksearch.{upper_bound}

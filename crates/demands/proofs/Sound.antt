@@ -1,6 +1,7 @@
 -- All that an accepted image says of one subtree, its children or its slots, in one record: what the image holds there,
 -- where it lies, its range and its depth. Proved: a subtree's parts are such again, and its records can be read.
-use Rattle.base.specs.Kit.{◌≡◌, List, true, false, ℕ, ◌+◌, ◌%◌, ◌^◌, ◌≤◌, ◌<◌, arith, length, get_or, le-leb, eq-eqb}
+use Rattle.std.specs.Prelude.{◌≡◌, ◌+◌, ◌%◌, ◌^◌, ◌≤◌, ◌<◌}
+use Rattle.base.specs.Kit.{List, true, false, ℕ, arith, length, get_or, le-leb, eq-eqb}
 use Rattle.base.specs.Pick.{pick}
 use Rattle.node.specs.Version.{is_leaf, at_rest}
 use Rattle.node.specs.Layout.{version_at, child_at, root_offset}

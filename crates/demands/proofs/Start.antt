@@ -2,7 +2,8 @@
 -- them the walk comes to a place from which on the row, and the rows stacked on the way, have exactly the keys past the
 -- start; and the potential pays for them. The idea: slot by slot the verdict is the test that the row is sieved by
 -- (proofs/Verdict.antt); a layer that is entered hands the rest of the cursor on, and the row behind its slot waits.
-use Rattle.base.specs.Kit.{◌≡◌, refl, ap, ap₂, sym, ◌∙◌, subst, List, ◌++◌, append_assoc, Bool, true, false, ℕ, zero, suc, ◌+◌, ◌*◌, ◌-◌, ◌^◌, ◌≤◌, ◌<◌, arith, length, take, drop, set, length-append, length-drop, take-append-drop, take_at, drop_at, take_all, take-take, length-take-le, lt-leb}
+use Rattle.std.specs.Prelude.{◌≡◌, ◌++◌, ◌+◌, ◌*◌, ◌-◌, ◌^◌, ◌≤◌, ◌<◌}
+use Rattle.base.specs.Kit.{refl, ap, ap₂, sym, ◌∙◌, subst, List, append_assoc, Bool, true, false, ℕ, zero, suc, arith, length, take, drop, set, length-append, length-drop, take-append-drop, take_at, drop_at, take_all, take-take, length-take-le, lt-leb}
 use Rattle.base.specs.Pick.{pick}
 use Rattle.key.specs.Ikey.{ikey_of, ikey_bytes}
 use Rattle.key.specs.Part.{part}

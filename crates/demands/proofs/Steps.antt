@@ -1,7 +1,8 @@
 -- Steps of a walk, and every list of them. Proved: a step lent the walk's image says the head of what is left, and one
 -- lent another length changes nothing; hence what a list of steps says and carries, and that its moves are no more than the
 -- potential. And one loop of moves counts as many keys as are left.
-use Rattle.base.specs.Kit.{◌≡◌, refl, ap, ap₂, sym, ◌∙◌, subst, List, [], ◌∷◌, Bool, true, false, not, inl, inr, ℕ, ◌+◌, ◌≤◌, arith, length, take, eq-eqb, ne_eqb}
+use Rattle.std.specs.Prelude.{◌≡◌, ◌∷◌, ◌+◌, ◌≤◌}
+use Rattle.base.specs.Kit.{refl, ap, ap₂, sym, ◌∙◌, subst, List, [], Bool, true, false, not, inl, inr, ℕ, arith, length, take, eq-eqb, ne_eqb}
 use Rattle.base.specs.Pick.{pick}
 use Rattle.cursor.specs.RangeBound.{contains}
 use Rattle.demands.specs.Types.{RangeBound, WalkStateFindNext as FindNext, Ended, HandedOut, Walk, Nothing, Stepped}

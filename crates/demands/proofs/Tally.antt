@@ -1,7 +1,8 @@
 -- One loop of moves over an accepted image, that goes on past every key. Proved: with as many moves as the potential
 -- allows it hands out as many keys as are left. The idea: a move that hands out a key leaves the scan as the next call
 -- takes it up.
-use Rattle.base.specs.Kit.{◌≡◌, sym, ap, ◌∙◌, subst, List, true, false, Option, ℕ, zero, suc, ◌+◌, ◌≤◌, arith, length}
+use Rattle.std.specs.Prelude.{◌≡◌, ◌+◌, ◌≤◌}
+use Rattle.base.specs.Kit.{sym, ap, ◌∙◌, subst, List, true, false, Option, ℕ, zero, suc, arith, length}
 use Rattle.base.specs.Pick.{pick}
 use Rattle.cursor.specs.RangeBound.{contains}
 use Rattle.layering.specs.Keys.{Pair}

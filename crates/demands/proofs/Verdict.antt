@@ -1,7 +1,8 @@
 -- What Start makes of a slot of a leaf in order, whatever the cursor's length. Proved: a value slot is passed over where
 -- its key is not past the start, and stood at where it is; a layer slot is passed over, stood at or entered by where its
 -- eight bytes lie. y is what the cursor has left in the layer.
-use Rattle.base.specs.Kit.{◌≡◌, ap, sym, ◌∙◌, List, ◌++◌, true, false, ◌⊎◌, inl, inr, ℕ, ◌+◌, ◌*◌, ◌≤◌, ◌<◌, arith, leb, ltb, eqb, length, drop, drop_at, le-leb, lt-leb, le-ltb, lt-ltb, eq-eqb, ltb-true, ltb-false}
+use Rattle.std.specs.Prelude.{◌≡◌, ◌++◌, ◌⊎◌, ◌+◌, ◌*◌, ◌≤◌, ◌<◌}
+use Rattle.base.specs.Kit.{ap, sym, ◌∙◌, List, true, false, inl, inr, ℕ, arith, leb, ltb, eqb, length, drop, drop_at, le-leb, lt-leb, le-ltb, lt-ltb, eq-eqb, ltb-true, ltb-false}
 use Rattle.base.specs.Pick.{pick}
 use Rattle.base.proofs.Choice.{pick_ind}
 use Rattle.key.specs.Order.{byte_order, then}

@@ -1,7 +1,8 @@
 -- From the placing to the row. Proved: what a placing that was taken says of its arguments; that the walk's bound
 -- admits what its argument does; and that what is left of a fresh walk is the row that demand 3 speaks of. Hence every
 -- list of steps, and the count of one loop of moves.
-use Rattle.base.specs.Kit.{◌≡◌, refl, ap, sym, ◌∙◌, subst, List, [], Bool, true, false, not, ℕ, ◌+◌, ◌*◌, ◌%◌, ◌≤◌, ◌<◌, arith, ltb, eqb, length, take, get_or, replicate, ltb-false, eqb-true, eqb-false, not-true, not-false, le-ltb, eq-eqb, le-leb}
+use Rattle.std.specs.Prelude.{◌≡◌, ◌+◌, ◌*◌, ◌%◌, ◌≤◌, ◌<◌}
+use Rattle.base.specs.Kit.{refl, ap, sym, ◌∙◌, subst, List, [], Bool, true, false, not, ℕ, arith, ltb, eqb, length, take, get_or, replicate, ltb-false, eqb-true, eqb-false, not-true, not-false, le-ltb, eq-eqb, le-leb}
 use Rattle.base.specs.Pick.{pick}
 use Rattle.base.proofs.Choice.{pick_ind}
 use Rattle.key.specs.Part.{padded}

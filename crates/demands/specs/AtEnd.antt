@@ -1,5 +1,6 @@
 -- What 02 [12] changes of a list of steps: "answers remain, and the moves up to the first none fall exactly where the end is handed out".
-use Rattle.base.specs.Kit.{Bool, true, false, ◌&&◌, ◌||◌, List, [], ◌∷◌, ◌≡◌, ℕ, ◌<◌}
+use Rattle.std.specs.Prelude.{◌&&◌, ◌||◌, ◌∷◌, ◌≡◌, ◌<◌}
+use Rattle.base.specs.Kit.{Bool, true, false, List, [], ℕ}
 use Rattle.base.specs.Pick.{pick}
 use Rattle.cursor.specs.RangeBound.{at_end}
 use Rattle.scan.specs.MovesOn.{step_on}

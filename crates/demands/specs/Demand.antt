@@ -1,6 +1,7 @@
 -- What demand 3 speaks of: a list of steps, what they say, and the row that they hand out (01: "Demand 3 is one claim about its
 -- whole list, not one for each step").
-use Rattle.base.specs.Kit.{Bool, true, false, not, List, [], ◌∷◌, ◌⊎◌, ◌≡◌, ℕ, ◌+◌, ◌*◌, ◌≤◌, eqb, length, take, replicate}
+use Rattle.std.specs.Prelude.{◌∷◌, ◌⊎◌, ◌≡◌, ◌+◌, ◌*◌, ◌≤◌}
+use Rattle.base.specs.Kit.{Bool, true, false, not, List, [], ℕ, eqb, length, take, replicate}
 use Rattle.base.specs.Pick.{pick}
 use Rattle.layering.specs.Keys.{Pair}
 use Rattle.layering.specs.Ascending.{Ascending}

@@ -1,5 +1,6 @@
 -- What a list of steps carries of the keys that have been handed out (02 [13]).
-use Rattle.base.specs.Kit.{Bool, true, false, List, [], ◌∷◌, ℕ, ◌+◌}
+use Rattle.std.specs.Prelude.{◌∷◌, ◌+◌}
+use Rattle.base.specs.Kit.{Bool, true, false, List, [], ℕ}
 use Rattle.layering.specs.Keys.{Pair}
 use Rattle.layering.specs.Depths.{depth_of}
 use Rattle.walk.specs.Walk.{keys_of, nothing_yet, one_more}

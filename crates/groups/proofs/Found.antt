@@ -1,5 +1,6 @@
 -- A GROUP FOUND, line by line: what is left of a group, from the line reached on, comes to the same as the whole.
-use Rattle.base.specs.Kit.{◌≡◌, refl, sym, ap, ◌∙◌, Bool, true, false, List, [], ◌∷◌, ◌++◌, append-nil, map, ℕ, suc, ◌+◌, ◌-◌, ◌≤◌, ◌<◌, arith, add-one, leb, eqb, le-leb, lt-leb, leb-true, leb-false, eq-eqb, ne_eqb, eqb-true, eqb-false, length, length-append, drop, map-append, append_snoc}
+use Rattle.std.specs.Prelude.{◌≡◌, ◌∷◌, ◌++◌, ◌+◌, ◌-◌, ◌≤◌, ◌<◌}
+use Rattle.base.specs.Kit.{refl, sym, ap, ◌∙◌, Bool, true, false, List, [], append-nil, map, ℕ, suc, arith, add-one, leb, eqb, le-leb, lt-leb, leb-true, leb-false, eq-eqb, ne_eqb, eqb-true, eqb-false, length, length-append, drop, map-append, append_snoc}
 use Rattle.base.specs.Pick.{pick}
 use Rattle.base.proofs.Choice.{by_test}
 use Rattle.key.specs.Ikey.{ikey_of}

@@ -1,6 +1,7 @@
 -- THE FIRST GROUP of what a layer is given: its slots, which are those of its shorts and then those of its longs; the groups behind it; and
 -- what the layer of its longs is given.
-use Rattle.base.specs.Kit.{◌≡◌, refl, sym, ap, ap₂, subst, ◌∙◌, Bool, true, false, List, [], ◌∷◌, ◌++◌, map, ℕ, zero, suc, ◌+◌, ◌*◌, ◌-◌, ◌≤◌, ◌<◌, min, arith, leb, eqb, leb-true, leb-false, eqb-true, length, length-append, take, drop, drop-drop}
+use Rattle.std.specs.Prelude.{◌≡◌, ◌∷◌, ◌++◌, ◌+◌, ◌*◌, ◌-◌, ◌≤◌, ◌<◌}
+use Rattle.base.specs.Kit.{refl, sym, ap, ap₂, subst, ◌∙◌, Bool, true, false, List, [], map, ℕ, zero, suc, min, arith, leb, eqb, leb-true, leb-false, eqb-true, length, length-append, take, drop, drop-drop}
 use Rattle.base.specs.Pick.{pick}
 use Rattle.key.specs.Ikey.{ikey_of}
 use Rattle.key.proofs.Bytes.{Bytes}

@@ -1,5 +1,6 @@
 -- A STATION LINE READ for a layer at depth d: what the layer has of its key stands in the reader's buffer.
-use Rattle.base.specs.Kit.{◌≡◌, sym, ap, subst, ◌∙◌, true, List, ◌++◌, ℕ, ◌+◌, ◌*◌, ◌-◌, ◌≤◌, min, arith, leb, leb-true, leb-false, length, drop, length-drop, drop_of_length-le, drop-length, sets, sets-eq, drop-append-le, take_at}
+use Rattle.std.specs.Prelude.{◌≡◌, ◌++◌, ◌+◌, ◌*◌, ◌-◌, ◌≤◌}
+use Rattle.base.specs.Kit.{sym, ap, subst, ◌∙◌, true, List, ℕ, min, arith, leb, leb-true, leb-false, length, drop, length-drop, drop_of_length-le, drop-length, sets, sets-eq, drop-append-le, take_at}
 use Rattle.base.proofs.Choice.{by_test}
 use Rattle.key.specs.Ikey.{ikey_of}
 use Rattle.key.specs.Part.{part}

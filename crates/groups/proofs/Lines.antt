@@ -1,6 +1,7 @@
 -- LINES of a sheet, one after the other: the first of some and the others; one more behind some. What a layer is given, without its
 -- first line, is what a layer may be given.
-use Rattle.base.specs.Kit.{◌≡◌, refl, sym, ap, subst, ◌∙◌, List, [], ◌∷◌, ◌++◌, map, ℕ, zero, suc, ◌*◌, ◌-◌, ◌≤◌, ◌<◌, arith, length, drop, length-drop, length-map}
+use Rattle.std.specs.Prelude.{◌≡◌, ◌∷◌, ◌++◌, ◌*◌, ◌-◌, ◌≤◌, ◌<◌}
+use Rattle.base.specs.Kit.{refl, sym, ap, subst, ◌∙◌, List, [], map, ℕ, zero, suc, arith, length, drop, length-drop, length-map}
 use Rattle.layering.specs.Keys.{Pair}
 use Rattle.layering.specs.Ascending.{All, Ascending}
 use Rattle.layering.proofs.Row.{all_map}

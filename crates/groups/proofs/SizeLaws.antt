@@ -1,6 +1,7 @@
 -- THE SIZE OF A LAYER, group by group: what is left, counted on from a tally, comes to the same as the whole; and the internodes over some
 -- leaves, level by level.
-use Rattle.base.specs.Kit.{◌≡◌, refl, sym, ap, ap₂, subst, ◌∙◌, Bool, true, false, List, [], ◌∷◌, map, ℕ, zero, suc, ◌+◌, ◌*◌, ◌/◌, ◌-◌, ◌≤◌, ◌<◌, min, arith, leb, leb-true, leb-false, le-leb, lt-leb, ne_eqb, length, length-drop}
+use Rattle.std.specs.Prelude.{◌≡◌, ◌∷◌, ◌+◌, ◌*◌, ◌/◌, ◌-◌, ◌≤◌, ◌<◌}
+use Rattle.base.specs.Kit.{refl, sym, ap, ap₂, subst, ◌∙◌, Bool, true, false, List, [], map, ℕ, zero, suc, min, arith, leb, leb-true, leb-false, le-leb, lt-leb, ne_eqb, length, length-drop}
 use Rattle.base.specs.Pick.{pick}
 use Rattle.base.proofs.Choice.{by_test}
 use Rattle.layering.specs.Tree.{Node, Slots, value}

@@ -1,5 +1,6 @@
 -- THE TOP LAYER: it is given all pairs of a sheet, with their whole keys.
-use Rattle.base.specs.Kit.{◌≡◌, sym, ap, subst, ◌∙◌, List, ℕ, ◌≤◌, arith, length, drop, map-id}
+use Rattle.std.specs.Prelude.{◌≡◌, ◌≤◌}
+use Rattle.base.specs.Kit.{sym, ap, subst, ◌∙◌, List, ℕ, arith, length, drop, map-id}
 use Rattle.key.proofs.Bytes.{bytes_of}
 use Rattle.layering.specs.Keys.{Pair}
 use Rattle.layering.specs.Ascending.{All, Ascending}

@@ -1,6 +1,7 @@
 -- GROUPS AS CODE FINDS THEM in the station lines of a sheet: the pairs of one ikey, those that end in a layer first, then those that go on
 -- below it (building/specs/Shape.antt has the groups and their slots).
-use Rattle.base.specs.Kit.{◌≡◌, ◌&&◌, List, [], ◌∷◌, map, ℕ, ◌+◌, ◌*◌, ◌-◌, ◌≤◌, ◌<◌, suc, leb, eqb, length, drop}
+use Rattle.std.specs.Prelude.{◌≡◌, ◌&&◌, ◌∷◌, ◌+◌, ◌*◌, ◌-◌, ◌≤◌, ◌<◌}
+use Rattle.base.specs.Kit.{List, [], map, ℕ, suc, leb, eqb, length, drop}
 use Rattle.base.specs.Pick.{pick}
 use Rattle.key.specs.Ikey.{ikey_of}
 use Rattle.layering.specs.Tree.{Slots, none, value}

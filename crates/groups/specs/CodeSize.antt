@@ -1,5 +1,6 @@
 -- SIZES AS CODE COUNTS THEM: no further than one byte past the longest image, so that no sum wraps.
-use Rattle.base.specs.Kit.{ℕ, ◌+◌, ◌-◌, min, leb}
+use Rattle.std.specs.Prelude.{◌+◌, ◌-◌}
+use Rattle.base.specs.Kit.{ℕ, min, leb}
 use Rattle.base.specs.Pick.{pick}
 use Rattle.groups.specs.declared.Tally.{Tally}
 

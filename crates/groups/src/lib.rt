@@ -4,7 +4,8 @@
 // Interface: `lowered_at`, `group_at` and `layer_size`.
 #![tactic(auto)]
 
-ghost use Rattle.base.specs.Kit.{◌≡◌, ◌+◌, ◌*◌, ◌-◌, ◌≤◌, ◌<◌, suc, min};
+ghost use Rattle.std.specs.Prelude.{◌≡◌, ◌+◌, ◌*◌, ◌-◌, ◌≤◌, ◌<◌};
+ghost use Rattle.base.specs.Kit.{suc, min};
 ghost use Rattle.layering.specs.Accepted.{end_n, end_s};
 ghost use Rattle.building.specs.Shape.{long_slots, layer_of};
 ghost use Rattle.building.proofs.Sizes.{internodes};

@@ -1,5 +1,6 @@
 -- Numbers written into the output: what one turn of each loop adds. Assumes nothing.
-use Rattle.base.specs.Kit.{◌≡◌, List, [], ◌%◌, ◌*◌, ◌+◌, ◌-◌, ◌/◌, ◌<◌, ◌≤◌, ℕ, add-one, arith, drop, get_or, length, set, drop-cons, paste-zero}
+use Rattle.std.specs.Prelude.{◌≡◌, ◌%◌, ◌*◌, ◌+◌, ◌-◌, ◌/◌, ◌<◌, ◌≤◌}
+use Rattle.base.specs.Kit.{List, [], ℕ, add-one, arith, drop, get_or, length, set, drop-cons, paste-zero}
 use Rattle.base.proofs.Count.{left-more}
 use Rattle.sheet.proofs.Paste.{paste-append, paste-first}
 use Rattle.building.specs.Build.{le_bytes, words}

@@ -1,5 +1,6 @@
 -- Pieces written one behind the other are one piece, written at once; and the bytes of single numbers and rows. Assumes nothing.
-use Rattle.base.specs.Kit.{◌∙◌, ◌≡◌, ap, refl, sym, List, [], ◌++◌, ◌∷◌, ◌%◌, ◌+◌, ◌/◌, ◌<◌, ◌^◌, ◌≤◌, suc, zero, ℕ, mod-eq_of_lt, pow-suc, suc-add, zero-add, arith, get_or, length, length-append, replicate}
+use Rattle.std.specs.Prelude.{◌≡◌, ◌++◌, ◌∷◌, ◌%◌, ◌+◌, ◌/◌, ◌<◌, ◌^◌, ◌≤◌}
+use Rattle.base.specs.Kit.{◌∙◌, ap, refl, sym, List, [], suc, zero, ℕ, mod-eq_of_lt, pow-suc, suc-add, zero-add, arith, get_or, length, length-append, replicate}
 use Rattle.sheet.proofs.Paste.{paste-append}
 use Rattle.building.specs.Build.{le_bytes, words}
 use Rattle.building.specs.CodeWritten.{put}

@@ -1,6 +1,7 @@
 -- What the code puts for a leaf, an internode, a padded suffix and the trailer, field by field, comes to the record's bytes, put at once.
 -- Assumes nothing.
-use Rattle.base.specs.Kit.{◌∙◌, ◌≡◌, ap, List, ◌++◌, append_assoc, append-nil, map, ◌*◌, ◌+◌, ◌-◌, ◌/◌, ◌≤◌, ℕ, arith, length, length-append, replicate, flatten}
+use Rattle.std.specs.Prelude.{◌≡◌, ◌++◌, ◌*◌, ◌+◌, ◌-◌, ◌/◌, ◌≤◌}
+use Rattle.base.specs.Kit.{◌∙◌, ap, List, append_assoc, append-nil, map, ℕ, arith, length, length-append, replicate, flatten}
 use Rattle.layering.specs.Tree.{Fields}
 use Rattle.building.specs.Shape.{identity}
 use Rattle.building.specs.Build.{le_bytes, words, mask, suffix_word, leaf_bytes}

@@ -1,5 +1,6 @@
 -- The records that the code collects, one slot or one child more at a time. Assumes nothing.
-use Rattle.base.specs.Kit.{◌∙◌, ◌≡◌, refl, Bool, false, true, List, [], ◌++◌, ◌∷◌, map, ◌*◌, ◌+◌, ◌-◌, ◌<◌, ◌^◌, ◌≤◌, suc, ℕ, pow-le-pow_right, pow-suc, pow-succ', add-one, arith, get_or, length, length-append, replicate, set, append_snoc, map-append, length-map, set_at}
+use Rattle.std.specs.Prelude.{◌≡◌, ◌++◌, ◌∷◌, ◌*◌, ◌+◌, ◌-◌, ◌<◌, ◌^◌, ◌≤◌}
+use Rattle.base.specs.Kit.{◌∙◌, refl, Bool, false, true, List, [], map, suc, ℕ, pow-le-pow_right, pow-suc, pow-succ', add-one, arith, get_or, length, length-append, replicate, set, append_snoc, map-append, length-map, set_at}
 use Rattle.base.specs.Pick.{pick}
 use Rattle.base.proofs.Count.{left-more}
 use Rattle.layering.specs.Tree.{Fields}

@@ -1,5 +1,6 @@
 -- What the code's records of a leaf and of an internode hold before they are written: rows of numbers, zero past those that are used.
-use Rattle.base.specs.Kit.{◌≡◌, List, [], ◌++◌, ◌∷◌, map, ◌*◌, ◌+◌, ◌-◌, ◌/◌, ◌^◌, ◌≤◌, ℕ, length, replicate, flatten}
+use Rattle.std.specs.Prelude.{◌≡◌, ◌++◌, ◌∷◌, ◌*◌, ◌+◌, ◌-◌, ◌/◌, ◌^◌, ◌≤◌}
+use Rattle.base.specs.Kit.{List, [], map, ℕ, length, replicate, flatten}
 use Rattle.layering.specs.Tree.{Fields, LeafHead}
 use Rattle.building.specs.Shape.{identity}
 use Rattle.building.specs.Build.{le_bytes, mask, suffix_word}

@@ -5,7 +5,8 @@
 // collected in a record by value, `LeafSlots` and `Children`, and written at once.
 #![tactic(auto)]
 
-ghost use Rattle.base.specs.Kit.{List, [], ◌∷◌, ◌++◌, ◌≡◌, ℕ, ◌+◌, ◌*◌, ◌/◌, ◌≤◌, ◌<◌, length, replicate};
+ghost use Rattle.std.specs.Prelude.{◌∷◌, ◌++◌, ◌≡◌, ◌+◌, ◌*◌, ◌/◌, ◌≤◌, ◌<◌};
+ghost use Rattle.base.specs.Kit.{List, [], ℕ, length, replicate};
 ghost use Rattle.base.specs.Pick.{pick};
 ghost use Rattle.layering.specs.Tree.{Fields};
 ghost use Rattle.building.specs.Build.{le_bytes, words, suffix_word, leaf_bytes};

@@ -1,6 +1,7 @@
 -- Byte strings: what is made of bytes by joining, cutting and filling, and what is written out of a number, has bytes
 -- only.
-use Rattle.base.specs.Kit.{List, [], ◌∷◌, ◌++◌, ℕ, zero, suc, ◌<◌, arith, get_or, take, drop}
+use Rattle.std.specs.Prelude.{◌∷◌, ◌++◌, ◌<◌}
+use Rattle.base.specs.Kit.{List, [], ℕ, zero, suc, arith, get_or, take, drop}
 use Rattle.key.specs.Ikey.{digits, ikey_bytes}
 use Rattle.key.specs.Part.{part}
 

@@ -1,5 +1,6 @@
 -- Laws of a comparison by pieces: what one piece decides, and what is left where it decides nothing.
-use Rattle.base.specs.Kit.{◌≡◌, refl, sym, ◌∙◌, ap, List, [], ◌∷◌, ◌++◌, ℕ, zero, suc, ◌+◌, ◌-◌, ◌*◌, ◌/◌, ◌%◌, ◌≤◌, ◌<◌, min, add-zero, zero-add, one-mul, sub-zero, append-nil, mul-zero, mul-suc, add-one, arith, length, get_or, take, drop, drop-cons, drop-drop, drop_of_length-le, length-drop, length-replicate, replicate, take_all}
+use Rattle.std.specs.Prelude.{◌≡◌, ◌∷◌, ◌++◌, ◌+◌, ◌-◌, ◌*◌, ◌/◌, ◌%◌, ◌≤◌, ◌<◌}
+use Rattle.base.specs.Kit.{refl, sym, ◌∙◌, ap, List, [], ℕ, zero, suc, min, add-zero, zero-add, one-mul, sub-zero, append-nil, mul-zero, mul-suc, add-one, arith, length, get_or, take, drop, drop-cons, drop-drop, drop_of_length-le, length-drop, length-replicate, replicate, take_all}
 use Rattle.base.proofs.Count.{left-more}
 use Rattle.key.specs.Order.{order, then, byte_order}
 use Rattle.key.specs.Comparisons.{widths, if_equal, through, compared_by, compared}

@@ -1,7 +1,8 @@
 -- Laws of the ikey. `split` says what the first n bytes, as a number, tell of the byte order of two strings; `rank`
 -- puts ikey and length into one number, so that comparing (ikey, length) is byte order by plain arithmetic. And
 -- `be` and `digits` are inverse to one another.
-use Rattle.base.specs.Kit.{◌≡◌, refl, ap, sym, ◌∙◌, List, [], ◌∷◌, ◌++◌, ℕ, zero, suc, ◌+◌, ◌*◌, ◌/◌, ◌%◌, ◌^◌, ◌-◌, ◌≤◌, ◌<◌, min, mul-le-mul_right, one-le-pow, pow-suc, pow-succ', mul-add-div_right, div-eq_of_lt, mod-eq_of_lt, arith, mod-mul, length, take, drop, get_or, replicate, take-append-drop, length-append, length-replicate, length-take-le, take_at, take_all, take-append_seam}
+use Rattle.std.specs.Prelude.{◌≡◌, ◌∷◌, ◌++◌, ◌+◌, ◌*◌, ◌/◌, ◌%◌, ◌^◌, ◌-◌, ◌≤◌, ◌<◌}
+use Rattle.base.specs.Kit.{refl, ap, sym, ◌∙◌, List, [], ℕ, zero, suc, min, mul-le-mul_right, one-le-pow, pow-suc, pow-succ', mul-add-div_right, div-eq_of_lt, mod-eq_of_lt, arith, mod-mul, length, take, drop, get_or, replicate, take-append-drop, length-append, length-replicate, length-take-le, take_at, take_all, take-append_seam}
 use Rattle.key.specs.Order.{order, byte_order}
 use Rattle.key.specs.declared.Ordering.{Ordering}
 use Rattle.key.specs.Ikey.{be, ikey_of, digits, ikey_bytes}

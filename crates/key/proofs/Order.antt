@@ -1,6 +1,7 @@
 -- Laws of plain byte order: `cmp` and `cmpb` say what each answer of `order` and `byte_order` means, and `Lex`, the
 -- relation that proofs take apart, is a strict order that `byte_order` decides.
-use Rattle.base.specs.Kit.{◌≡◌, refl, sym, ◌∙◌, subst, List, [], ◌∷◌, ◌++◌, ℕ, ◌≤◌, ◌<◌, arith, ltb, ltb-true, ltb-false}
+use Rattle.std.specs.Prelude.{◌≡◌, ◌∷◌, ◌++◌, ◌≤◌, ◌<◌}
+use Rattle.base.specs.Kit.{refl, sym, ◌∙◌, subst, List, [], ℕ, arith, ltb, ltb-true, ltb-false}
 use Rattle.base.specs.Pick.{pick}
 use Rattle.base.proofs.Choice.{pick_ind}
 use Rattle.base.proofs.Tests.{tests}

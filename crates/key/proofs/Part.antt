@@ -1,5 +1,6 @@
 -- The buffer of 256 bytes: what a copy into zeroes comes to.
-use Rattle.base.specs.Kit.{◌≡◌, List, ℕ, zero, suc, ◌-◌, zero-add, zero-sub, sub-zero, suc-sub-suc, length, drop, replicate, paste, take-length}
+use Rattle.std.specs.Prelude.{◌≡◌, ◌-◌}
+use Rattle.base.specs.Kit.{List, ℕ, zero, suc, zero-add, zero-sub, sub-zero, suc-sub-suc, length, drop, replicate, paste, take-length}
 use Rattle.key.specs.Part.{padded}
 
 drop-replicate : (n m a : ℕ) → drop n (replicate m a) ≡ replicate (m - n) a

@@ -1,5 +1,6 @@
 -- What one turn of a loop adds to the number that the first n bytes make: one byte more.
-use Rattle.base.specs.Kit.{◌≡◌, ap, List, [], ◌∷◌, ℕ, zero, suc, ◌+◌, ◌*◌, ◌^◌, ◌≤◌, ◌<◌, pow-le-pow_right, pow-suc, mul_assoc, arith, get_or}
+use Rattle.std.specs.Prelude.{◌≡◌, ◌∷◌, ◌+◌, ◌*◌, ◌^◌, ◌≤◌, ◌<◌}
+use Rattle.base.specs.Kit.{ap, List, [], ℕ, zero, suc, pow-le-pow_right, pow-suc, mul_assoc, arith, get_or}
 use Rattle.key.specs.Ikey.{be}
 use Rattle.key.proofs.Bytes.{bytes_of}
 use Rattle.key.proofs.Ikey.{be-lt}

@@ -1,5 +1,6 @@
 -- Copies by words: eight bytes are a word, and a word may be copied over the end of what is copied already.
-use Rattle.base.specs.Kit.{◌≡◌, refl, sym, ◌∙◌, ap, List, [], ◌∷◌, ◌++◌, append_assoc, append-nil, ℕ, zero, suc, ◌+◌, ◌-◌, ◌*◌, ◌/◌, ◌%◌, ◌≤◌, ◌<◌, min, zero-min, add-one, arith, length, get_or, drop-cons, take, drop, replicate, length-drop, paste, paste-zero, length-take-le, take-length, take-take, take-add, take-append-add, take-paste, drop-drop, drop-paste}
+use Rattle.std.specs.Prelude.{◌≡◌, ◌∷◌, ◌++◌, ◌+◌, ◌-◌, ◌*◌, ◌/◌, ◌%◌, ◌≤◌, ◌<◌}
+use Rattle.base.specs.Kit.{refl, sym, ◌∙◌, ap, List, [], append_assoc, append-nil, ℕ, zero, suc, min, zero-min, add-one, arith, length, get_or, drop-cons, take, drop, replicate, length-drop, paste, paste-zero, length-take-le, take-length, take-take, take-add, take-append-add, take-paste, drop-drop, drop-paste}
 use Rattle.key.specs.Part.{part}
 use Rattle.node.specs.Le.{le, u64_at}
 use Rattle.key.specs.Ikey.{be}

@@ -1,5 +1,6 @@
 -- Words of a byte string, as the functions read and copy them.
-use Rattle.base.specs.Kit.{List, [], ◌∷◌, ℕ, zero, suc, ◌+◌, ◌-◌, ◌/◌, ◌%◌, min, length, paste}
+use Rattle.std.specs.Prelude.{◌∷◌, ◌+◌, ◌-◌, ◌/◌, ◌%◌}
+use Rattle.base.specs.Kit.{List, [], ℕ, zero, suc, min, length, paste}
 use Rattle.key.specs.Part.{part}
 
 -- d, in which s begins at `at`, with a word of s in it: the eight bytes from i on, or the last eight where fewer are left.

@@ -1,7 +1,8 @@
 -- Two keys compared by eights (02 [4]: "it shall compare eight bytes at a time while both keys have eight left, then single bytes. Its
 -- answer is proved to be plain byte order's, and it returns its comparisons too: one for each eight and each single byte through the
 -- first that differs").
-use Rattle.base.specs.Kit.{List, [], ◌∷◌, ◌++◌, ℕ, suc, ◌/◌, ◌%◌, min, length, take, drop, replicate}
+use Rattle.std.specs.Prelude.{◌∷◌, ◌++◌, ◌/◌, ◌%◌}
+use Rattle.base.specs.Kit.{List, [], ℕ, suc, min, length, take, drop, replicate}
 use Rattle.key.specs.Order.{byte_order}
 use Rattle.key.specs.declared.Compared.{Compared}
 use Rattle.key.specs.declared.Ordering.{Ordering}

@@ -1,6 +1,7 @@
 -- The ikey of a byte string, and the bytes of an ikey
 -- (01, "The image": "An ikey holds eight key bytes, first byte highest, zero-filled").
-use Rattle.base.specs.Kit.{List, [], ◌∷◌, ℕ, zero, suc, ◌+◌, ◌*◌, ◌/◌, ◌%◌, ◌^◌}
+use Rattle.std.specs.Prelude.{◌∷◌, ◌+◌, ◌*◌, ◌/◌, ◌%◌, ◌^◌}
+use Rattle.base.specs.Kit.{List, [], ℕ, zero, suc}
 
 -- The first n bytes of s as one number, first byte highest, zero-filled.
 unfoldable pub be : ℕ → List ℕ → ℕ

@@ -1,5 +1,6 @@
 -- Plain byte order (01, module 2: "`contains`, plain byte order"; 02 [1]: "byte order decides").
-use Rattle.base.specs.Kit.{List, [], ◌∷◌, ℕ, ltb}
+use Rattle.std.specs.Prelude.{◌∷◌}
+use Rattle.base.specs.Kit.{List, [], ℕ, ltb}
 use Rattle.base.specs.Pick.{pick}
 use Rattle.key.specs.declared.Ordering.{Ordering}
 use Rattle.key.specs.declared.Ordering.TheVariants.{Less, Equal, Greater}

@@ -1,5 +1,6 @@
 -- Parts of byte strings, and byte strings in a buffer of 256 bytes.
-use Rattle.base.specs.Kit.{List, ◌++◌, ℕ, ◌-◌, length, take, drop, replicate}
+use Rattle.std.specs.Prelude.{◌++◌, ◌-◌}
+use Rattle.base.specs.Kit.{List, ℕ, length, take, drop, replicate}
 
 -- The n bytes of s from `at` on.
 unfoldable pub part : List ℕ → ℕ → ℕ → List ℕ

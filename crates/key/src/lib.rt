@@ -4,7 +4,8 @@
 // fill is long enough; each result is fixed by a definition of specs/ or of the library.
 #![tactic(auto)]
 
-ghost use Rattle.base.specs.Kit.{◌≡◌, ◌+◌, ◌≤◌, min, get_or, length, paste, take, drop, replicate};
+ghost use Rattle.std.specs.Prelude.{◌≡◌, ◌+◌, ◌≤◌};
+ghost use Rattle.base.specs.Kit.{min, get_or, length, paste, take, drop, replicate};
 ghost use Rattle.key.specs.Order.{order, byte_order};
 ghost use Rattle.key.specs.Comparisons.{compared_by, compared};
 ghost use Rattle.key.specs.Ikey.{be, ikey_of, ikey_bytes};

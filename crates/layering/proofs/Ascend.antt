@@ -1,6 +1,7 @@
 -- Proved: the row of a tree that obeys 01's rules ascends by rank. The idea: the separators bound a subtree's ikeys, the
 -- slots of one leaf ascend, and below the root no rank is 0.
-use Rattle.base.specs.Kit.{◌≡◌, ℕ, suc, ◌+◌, ◌*◌, ◌^◌, ◌≤◌, ◌<◌, min, max, arith}
+use Rattle.std.specs.Prelude.{◌≡◌, ◌+◌, ◌*◌, ◌^◌, ◌≤◌, ◌<◌}
+use Rattle.base.specs.Kit.{ℕ, suc, min, max, arith}
 use Rattle.key.specs.Ikey.{ikey_of, ikey_bytes}
 use Rattle.key.proofs.Bytes.{ikey_bytes-bytes}
 use Rattle.key.proofs.Ikey.{rank, ikey_bytes-length, ikey_of-ikey_bytes}

@@ -1,5 +1,6 @@
 -- The row that a walk is asked for: its starts by byte order, that it ascends, and that it goes by the live pairs alone.
-use Rattle.base.specs.Kit.{◌≡◌, ap, true, false, List, ℕ, ◌<◌, get_or, Bool, [], ◌∷◌}
+use Rattle.std.specs.Prelude.{◌≡◌, ◌<◌, ◌∷◌}
+use Rattle.base.specs.Kit.{ap, true, false, List, ℕ, get_or, Bool, []}
 use Rattle.base.proofs.Choice.{pick_ind}
 use Rattle.key.specs.Order.{byte_order}
 use Rattle.key.specs.declared.Ordering.TheVariants.{Less, Equal, Greater}

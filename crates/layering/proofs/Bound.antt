@@ -1,5 +1,6 @@
 -- What lies past a key that a bound does not admit is not admitted either; nor is what lies past the key exactly at its included end.
-use Rattle.base.specs.Kit.{◌≡◌, refl, sym, ◌∙◌, List, [], ◌∷◌, Bool, true, false, true≢false, ℕ, eqb}
+use Rattle.std.specs.Prelude.{◌≡◌, ◌∷◌}
+use Rattle.base.specs.Kit.{refl, sym, ◌∙◌, List, [], Bool, true, false, true≢false, ℕ, eqb}
 use Rattle.base.specs.Pick.{pick}
 use Rattle.key.specs.Order.{byte_order}
 use Rattle.key.specs.declared.Ordering.{Ordering}

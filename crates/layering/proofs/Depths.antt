@@ -1,7 +1,8 @@
 -- The depths of an image's live keys, along its row. Proved: the keys that have a depth are the live pairs' keys, one by one; so each is found at
 -- its own (`live_depths`), and eight times a key's depth is the length of what the layers above have of it (`Known`). What a walk over rows has
 -- left stays such (`known_past`, and proofs/Walk.antt).
-use Rattle.base.specs.Kit.{◌≡◌, refl, List, [], ◌∷◌, ◌++◌, Bool, true, false, ℕ, ◌+◌, ◌*◌, arith, length, length-append}
+use Rattle.std.specs.Prelude.{◌≡◌, ◌∷◌, ◌++◌, ◌+◌, ◌*◌}
+use Rattle.base.specs.Kit.{refl, List, [], Bool, true, false, ℕ, arith, length, length-append}
 use Rattle.base.specs.Pick.{pick}
 use Rattle.key.specs.Ikey.{ikey_bytes}
 use Rattle.key.specs.Order.{byte_order}

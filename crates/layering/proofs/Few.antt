@@ -1,5 +1,6 @@
 -- A row has no more pairs than its image has bytes: every pair is of a live value slot, and those fit.
-use Rattle.base.specs.Kit.{Bool, List, [], ◌∷◌, ℕ, ◌≤◌, arith, length}
+use Rattle.std.specs.Prelude.{◌∷◌, ◌≤◌}
+use Rattle.base.specs.Kit.{Bool, List, [], ℕ, arith, length}
 use Rattle.base.proofs.Choice.{pick_ind}
 use Rattle.cursor.specs.RangeBound.{contains}
 use Rattle.cursor.specs.declared.range_bound.StartMode.{StartMode}

@@ -1,6 +1,7 @@
 -- The row of a tree: its slots in the order in which a walk meets them. Proved, by recursion on the tree: the row has the
 -- tree's pairs, and it weighs its leaves, its value slots and four for each of its layers.
-use Rattle.base.specs.Kit.{◌≡◌, refl, sym, List, ◌∷◌, ◌++◌, append_assoc, append-nil, Bool, true, false, ℕ, ◌+◌, ◌*◌, arith}
+use Rattle.std.specs.Prelude.{◌≡◌, ◌∷◌, ◌++◌, ◌+◌, ◌*◌}
+use Rattle.base.specs.Kit.{refl, sym, List, append_assoc, append-nil, Bool, true, false, ℕ, arith}
 use Rattle.base.specs.Pick.{pick}
 use Rattle.key.specs.Ikey.{ikey_bytes}
 use Rattle.layering.specs.Tree.{Node, leaf, internode, beyond, Kids, last, more, Slots, none, value, layer}

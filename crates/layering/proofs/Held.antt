@@ -1,6 +1,7 @@
 -- That an image holds a tree, place by place: what stands in the tree is what the image says there. Proved: an image
 -- holds the tree that `tree_of` reads from it, by recursion on how it is read.
-use Rattle.base.specs.Kit.{◌≡◌, refl, true, false, List, ℕ, zero, suc, ◌+◌, ◌≤◌, ◌<◌, arith, leb, leb-true, leb-false}
+use Rattle.std.specs.Prelude.{◌≡◌, ◌+◌, ◌≤◌, ◌<◌}
+use Rattle.base.specs.Kit.{refl, true, false, List, ℕ, zero, suc, arith, leb, leb-true, leb-false}
 use Rattle.base.proofs.Choice.{pick_ind}
 use Rattle.node.specs.Version.{is_leaf}
 use Rattle.node.specs.Permuter.{size_of}

@@ -1,6 +1,7 @@
 -- The trailer's count of an image that obeys the rules: the live value slots are the live pairs, one by one, and all of them are the row
 -- from the empty key on.
-use Rattle.base.specs.Kit.{◌≡◌, refl, sym, ◌∙◌, ap, Bool, true, false, List, [], ◌∷◌, ◌++◌, ℕ, ◌+◌, ◌≤◌, arith, length, length-append}
+use Rattle.std.specs.Prelude.{◌≡◌, ◌∷◌, ◌++◌, ◌+◌, ◌≤◌}
+use Rattle.base.specs.Kit.{refl, sym, ◌∙◌, ap, Bool, true, false, List, [], ℕ, arith, length, length-append}
 use Rattle.base.specs.Pick.{pick}
 use Rattle.base.proofs.Choice.{one_at_most}
 use Rattle.key.specs.Ikey.{ikey_bytes}

@@ -1,6 +1,7 @@
 -- The live pairs of an image that obeys 01's rules: their keys ascend strictly in plain byte order, and have at most 256
 -- bytes. The order comes from the row of the tree; it assumes that the image has bytes only.
-use Rattle.base.specs.Kit.{◌≡◌, ◌∙◌, subst, List, [], ◌++◌, append-nil, ℕ, ◌+◌, ◌*◌, ◌≤◌, ◌<◌, arith, length, get_or, drop, length-append, length-take}
+use Rattle.std.specs.Prelude.{◌≡◌, ◌++◌, ◌+◌, ◌*◌, ◌≤◌, ◌<◌}
+use Rattle.base.specs.Kit.{◌∙◌, subst, List, [], append-nil, ℕ, arith, length, get_or, drop, length-append, length-take}
 use Rattle.base.proofs.Choice.{pick_ind}
 use Rattle.key.specs.Part.{part}
 use Rattle.node.specs.Layout.{child_at, root_offset}

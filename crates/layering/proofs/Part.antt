@@ -1,7 +1,8 @@
 -- What a slot holds of its key. Proved: a value slot's own bytes have the slot's ikey, and the rank that its ikey and
 -- `keylenx` say; and slots that stand before one another ascend by that rank. Assumes of the fields only what "The image"
 -- says of them, and that the ikey is a u64 and the suffix has as many bytes as its length says.
-use Rattle.base.specs.Kit.{◌≡◌, ap, sym, ◌∙◌, ◌++◌, ◌⊎◌, inl, inr, ⊎_elim, ℕ, zero, suc, ◌+◌, ◌*◌, ◌^◌, ◌≤◌, ◌<◌, min, arith, length, take, length-append, length-take, take_at, take_all, eq-eqb, ne_eqb}
+use Rattle.std.specs.Prelude.{◌≡◌, ◌++◌, ◌⊎◌, ◌+◌, ◌*◌, ◌^◌, ◌≤◌, ◌<◌}
+use Rattle.base.specs.Kit.{ap, sym, ◌∙◌, inl, inr, ⊎_elim, ℕ, zero, suc, min, arith, length, take, length-append, length-take, take_at, take_all, eq-eqb, ne_eqb}
 use Rattle.base.specs.Pick.{pick}
 use Rattle.key.specs.Ikey.{be, ikey_of, ikey_bytes}
 use Rattle.key.proofs.Bytes.{Bytes, bytes-append, bytes_take, ikey_bytes-bytes}

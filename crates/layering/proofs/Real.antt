@@ -1,7 +1,8 @@
 -- What is true of the slots of a tree that was read from bytes, whose records lie in post-order in the image: every ikey
 -- is a u64, a suffix has bytes only and as many as its length says, a layer slot has `keylenx` 128 or more. The idea: a
 -- suffix starts at the place reached, and the leaf that names it stands behind it. Assumes that the image has bytes only.
-use Rattle.base.specs.Kit.{◌≡◌, ap, List, ℕ, zero, suc, ◌+◌, ◌^◌, ◌≤◌, ◌<◌, arith, length, get_or, drop, length-take, length-drop, eq-eqb}
+use Rattle.std.specs.Prelude.{◌≡◌, ◌+◌, ◌^◌, ◌≤◌, ◌<◌}
+use Rattle.base.specs.Kit.{ap, List, ℕ, zero, suc, arith, length, get_or, drop, length-take, length-drop, eq-eqb}
 use Rattle.base.specs.Pick.{pick}
 use Rattle.key.specs.Part.{part}
 use Rattle.key.proofs.Bytes.{Bytes, bytes_of, bytes-part}

@@ -1,7 +1,8 @@
 -- A layer as a walk meets it: one row of slots, with a mark where the next leaf begins. Proved: the keys of a row whose
 -- slots ascend by rank ascend in plain byte order. The idea: a key is its prefix and a part whose rank the row bounds,
 -- and ranks that differ decide byte order.
-use Rattle.base.specs.Kit.{◌≡◌, refl, ◌∙◌, List, [], ◌∷◌, ◌++◌, append_assoc, Bool, true, false, ℕ, suc, ◌+◌, ◌*◌, ◌≤◌, ◌<◌, arith, length}
+use Rattle.std.specs.Prelude.{◌≡◌, ◌∷◌, ◌++◌, ◌+◌, ◌*◌, ◌≤◌, ◌<◌}
+use Rattle.base.specs.Kit.{refl, ◌∙◌, List, [], append_assoc, Bool, true, false, ℕ, suc, arith, length}
 use Rattle.key.specs.Order.{byte_order}
 use Rattle.key.specs.Ikey.{ikey_of}
 use Rattle.key.specs.declared.Ordering.TheVariants.{Less}

@@ -1,6 +1,7 @@
 -- The moves of a walk over an image that obeys 01's rules are fewer than its bytes: a leaf has 400 bytes and at most
 -- fifteen slots, and each layer has a leaf.
-use Rattle.base.specs.Kit.{List, ℕ, ◌+◌, ◌*◌, ◌≤◌, ◌<◌, arith, length}
+use Rattle.std.specs.Prelude.{◌+◌, ◌*◌, ◌≤◌, ◌<◌}
+use Rattle.base.specs.Kit.{List, ℕ, arith, length}
 use Rattle.node.specs.Layout.{child_at, root_offset}
 use Rattle.layering.specs.Tree.{Node, leaf, internode, beyond, Kids, last, more, Slots, none, value, layer, tree_of}
 use Rattle.layering.specs.Keys.{leaves_n, leaves_k, leaves_s, values_n, values_k, values_s, layers_n, layers_k, layers_s}

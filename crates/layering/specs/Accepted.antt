@@ -1,6 +1,7 @@
 -- Which images are in order: 01's list "An accepted image obeys this", one definition for each of its points, and what
 -- "The image" asks of single fields. All are about the tree that the image holds (specs/Tree.antt).
-use Rattle.base.specs.Kit.{true, List, ◌⊎◌, ◌≡◌, ℕ, ◌+◌, ◌*◌, ◌/◌, ◌%◌, ◌-◌, ◌^◌, ◌≤◌, ◌<◌, eqb, length, get_or}
+use Rattle.std.specs.Prelude.{◌⊎◌, ◌≡◌, ◌+◌, ◌*◌, ◌/◌, ◌%◌, ◌-◌, ◌^◌, ◌≤◌, ◌<◌}
+use Rattle.base.specs.Kit.{true, List, ℕ, eqb, length, get_or}
 use Rattle.base.specs.Pick.{pick}
 use Rattle.key.specs.Ikey.{ikey_bytes}
 use Rattle.node.specs.Version.{at_rest}

@@ -1,6 +1,7 @@
 -- Lists of pairs whose keys ascend strictly in plain byte order, and lists of which every pair has some property. The
 -- theorems about `live_pairs` (proofs/Pairs.antt) are stated in these words.
-use Rattle.base.specs.Kit.{List, [], ◌∷◌, ◌≡◌}
+use Rattle.std.specs.Prelude.{◌∷◌, ◌≡◌}
+use Rattle.base.specs.Kit.{List, []}
 use Rattle.key.specs.Order.{byte_order}
 use Rattle.key.specs.declared.Ordering.TheVariants.{Less}
 use Rattle.layering.specs.Keys.{Pair}

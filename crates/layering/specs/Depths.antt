@@ -1,5 +1,6 @@
 -- The depth of each live key of a tree (02 [13]: "the depth at which the last key was found"): that of the layer in which the tree holds it.
-use Rattle.base.specs.Kit.{Bool, true, false, List, [], ◌∷◌, ◌++◌, ℕ, ◌+◌}
+use Rattle.std.specs.Prelude.{◌∷◌, ◌++◌, ◌+◌}
+use Rattle.base.specs.Kit.{Bool, true, false, List, [], ℕ}
 use Rattle.base.specs.Pick.{pick}
 use Rattle.key.specs.Ikey.{ikey_bytes}
 use Rattle.key.specs.Order.{byte_order}

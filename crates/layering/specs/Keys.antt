@@ -1,6 +1,7 @@
 -- The keys of a tree, written down by the paper's layering; the list of an image's live pairs, in order; the three numbers
 -- of a tree; and how many of its value slots are live. Every tool over accepted images is stated against `live_pairs`.
-use Rattle.base.specs.Kit.{List, [], ◌∷◌, ◌++◌, ℕ, ◌+◌, eqb, take}
+use Rattle.std.specs.Prelude.{◌∷◌, ◌++◌, ◌+◌}
+use Rattle.base.specs.Kit.{List, [], ℕ, eqb, take}
 use Rattle.base.specs.Pick.{pick}
 use Rattle.key.specs.Ikey.{ikey_bytes}
 use Rattle.layering.specs.Tree.{Fields, Node, leaf, internode, beyond, Kids, last, more, Slots, none, value, layer, tree_of}

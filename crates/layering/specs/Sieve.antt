@@ -1,6 +1,7 @@
 -- The part of a list of pairs that a walk is asked for: those whose keys pass a test, the tests of the two starts ("above" a cursor, and
 -- "from" it on), in plain byte order, and the row of an image by start and bound.
-use Rattle.base.specs.Kit.{Bool, true, false, List, [], ◌∷◌, ℕ}
+use Rattle.std.specs.Prelude.{◌∷◌}
+use Rattle.base.specs.Kit.{Bool, true, false, List, [], ℕ}
 use Rattle.base.specs.Pick.{pick}
 use Rattle.key.specs.Order.{byte_order}
 use Rattle.key.specs.declared.Ordering.{Ordering}

@@ -1,6 +1,7 @@
 -- The tree that an image holds: all that its records say, layer by layer (01, "The image"; the paper: a trie whose every
 -- layer is a B+tree over eight key bytes). It is read from any bytes at all; specs/Accepted.antt says which are in order.
-use Rattle.base.specs.Kit.{Bool, List, ℕ, zero, suc, ◌+◌, leb}
+use Rattle.std.specs.Prelude.{◌+◌}
+use Rattle.base.specs.Kit.{Bool, List, ℕ, zero, suc, leb}
 use Rattle.base.specs.Pick.{pick}
 use Rattle.key.specs.Part.{part}
 use Rattle.node.specs.Version.{is_leaf}

@@ -1,6 +1,7 @@
 -- THE SIBLINGS OF AN INTERNODE, one by one: what is left, written from here, comes to the same as the whole. Assumes of the lines what a
 -- layer is given.
-use Rattle.base.specs.Kit.{◌≡◌, refl, ap, sym, ◌∙◌, List, [], ◌∷◌, ◌++◌, append_assoc, append-nil, map, ℕ, suc, ◌+◌, ◌*◌, ◌-◌, ◌^◌, ◌≤◌, ◌<◌, arith, length, length-append, drop, add-mul, flatten, length-map, ◌⊎◌, inl, inr}
+use Rattle.std.specs.Prelude.{◌≡◌, ◌∷◌, ◌++◌, ◌+◌, ◌*◌, ◌-◌, ◌^◌, ◌≤◌, ◌<◌, ◌⊎◌}
+use Rattle.base.specs.Kit.{refl, ap, sym, ◌∙◌, List, [], append_assoc, append-nil, map, ℕ, suc, arith, length, length-append, drop, add-mul, flatten, length-map, inl, inr}
 use Rattle.layering.specs.Tree.{Node}
 use Rattle.layering.specs.Accepted.{end_n}
 use Rattle.building.specs.Shape.{first_ikey_n}

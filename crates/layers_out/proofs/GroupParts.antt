@@ -1,6 +1,7 @@
 -- ONE GROUP among the lines that are left: how many slots it takes; its short keys, then a suffix or a layer for the long ones, laid one
 -- behind the other, are the group laid. Assumes of the lines what a layer is given.
-use Rattle.base.specs.Kit.{◌≡◌, refl, ap, ap₂, sym, ◌∙◌, List, [], ◌∷◌, ◌++◌, map, false, ℕ, suc, ◌+◌, ◌*◌, ◌-◌, ◌≤◌, ◌<◌, min, arith, length, length-append, length-map}
+use Rattle.std.specs.Prelude.{◌≡◌, ◌∷◌, ◌++◌, ◌+◌, ◌*◌, ◌-◌, ◌≤◌, ◌<◌}
+use Rattle.base.specs.Kit.{refl, ap, ap₂, sym, ◌∙◌, List, [], map, false, ℕ, suc, min, arith, length, length-append, length-map}
 use Rattle.layering.specs.Tree.{Fields, Node}
 use Rattle.layering.specs.Keys.{Pair, leaves_s}
 use Rattle.layering.specs.Accepted.{end_n, end_s}

@@ -1,6 +1,7 @@
 -- SUBTREES AND LAYERS: a leaf is a tower of height 0, and an internode over a tower and its siblings is one that is higher; when no line is
 -- left the tower is the layer. Assumes of the lines what a layer is given, and room.
-use Rattle.base.specs.Kit.{◌≡◌, refl, ap, sym, ◌∙◌, List, [], ◌∷◌, map, ℕ, suc, ◌+◌, ◌*◌, ◌-◌, ◌^◌, ◌≤◌, ◌<◌, arith, length, drop, length-drop, pow-succ', pow-le-pow_right, add-one, dec_le, length-map}
+use Rattle.std.specs.Prelude.{◌≡◌, ◌∷◌, ◌+◌, ◌*◌, ◌-◌, ◌^◌, ◌≤◌, ◌<◌}
+use Rattle.base.specs.Kit.{refl, ap, sym, ◌∙◌, List, [], map, ℕ, suc, arith, length, drop, length-drop, pow-succ', pow-le-pow_right, add-one, dec_le, length-map}
 use Rattle.base.specs.Pick.{pick}
 use Rattle.layering.specs.Tree.{Node, Slots}
 use Rattle.layering.specs.Accepted.{end_n}

@@ -1,6 +1,7 @@
 -- ONE LEAF: its parts laid, its record behind them, the previous leaf's `next` set, is the leaf written. Assumes that its slots can be
 -- written, and that there is room.
-use Rattle.base.specs.Kit.{Bool, true, false, leb-true, ◌≡◌, refl, ap, ◌∙◌, List, [], ◌∷◌, map, ℕ, ◌+◌, ◌-◌, ◌≤◌, arith, leb, length, get_or, dec_le}
+use Rattle.std.specs.Prelude.{◌≡◌, ◌∷◌, ◌+◌, ◌-◌, ◌≤◌}
+use Rattle.base.specs.Kit.{Bool, true, false, leb-true, refl, ap, ◌∙◌, List, [], map, ℕ, arith, leb, length, get_or, dec_le}
 use Rattle.base.specs.Pick.{pick}
 use Rattle.layering.specs.Tree.{Fields, Slots, none, value, layer}
 use Rattle.layering.specs.Accepted.{end_n, end_s}

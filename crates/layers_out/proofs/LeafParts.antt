@@ -1,5 +1,6 @@
 -- THE PARTS OF A LEAF, group by group: what is left, laid from here, comes to the same as the whole. Assumes nothing.
-use Rattle.base.specs.Kit.{◌≡◌, refl, ap, sym, ◌∙◌, List, [], ◌∷◌, ℕ, ◌+◌, ◌-◌, ◌≤◌, ◌<◌, arith, length}
+use Rattle.std.specs.Prelude.{◌≡◌, ◌∷◌, ◌+◌, ◌-◌, ◌≤◌, ◌<◌}
+use Rattle.base.specs.Kit.{refl, ap, sym, ◌∙◌, List, [], ℕ, arith, length}
 use Rattle.layering.specs.Tree.{Fields, Slots, none}
 use Rattle.layering.specs.Accepted.{end_s}
 use Rattle.building.specs.Shape.{size_s, join_s}

@@ -1,5 +1,6 @@
 -- STATION LINES LEFT behind some leaves, and the leaves that they make. Assumes of the lines what a layer is given.
-use Rattle.base.specs.Kit.{◌≡◌, refl, ap, ◌∙◌, List, [], ◌∷◌, map, ℕ, zero, suc, ◌+◌, ◌-◌, ◌<◌, arith, length, drop, length-map}
+use Rattle.std.specs.Prelude.{◌≡◌, ◌∷◌, ◌+◌, ◌-◌, ◌<◌}
+use Rattle.base.specs.Kit.{refl, ap, ◌∙◌, List, [], map, ℕ, zero, suc, arith, length, drop, length-map}
 use Rattle.layering.specs.Tree.{Slots}
 use Rattle.layering.specs.Keys.{Pair}
 use Rattle.building.specs.Shape.{leaf_of, groups, group_slots, layer_of}

@@ -1,6 +1,7 @@
 -- WHAT THE WRITERS OF A LAYER ARE GIVEN, AND WHAT THEY LEAVE, by the order in which they go (building/specs/CodeOrder.antt): the output with
 -- a subtree written behind the layer's last leaf, and the station lines behind it.
-use Rattle.base.specs.Kit.{List, map, ◌≡◌, ℕ, suc, ◌+◌, ◌*◌, ◌-◌, ◌^◌, ◌≤◌, ◌<◌, length}
+use Rattle.std.specs.Prelude.{◌≡◌, ◌+◌, ◌*◌, ◌-◌, ◌^◌, ◌≤◌, ◌<◌}
+use Rattle.base.specs.Kit.{List, map, ℕ, suc, length}
 use Rattle.layering.specs.Tree.{Node, Slots}
 use Rattle.layering.specs.Accepted.{end_n}
 use Rattle.building.specs.Shape.{group_slots, leaf_of, first_ikey_n, layer_of}

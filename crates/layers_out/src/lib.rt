@@ -5,7 +5,8 @@
 // may have a layer. All that writes one record, or reads one line, stands outside the cycle.
 #![tactic(auto)]
 
-ghost use Rattle.base.specs.Kit.{List, [], ◌≡◌, ◌+◌, ◌*◌, ◌-◌, ◌^◌, ◌≤◌, ◌<◌, min, length};
+ghost use Rattle.std.specs.Prelude.{◌≡◌, ◌+◌, ◌*◌, ◌-◌, ◌^◌, ◌≤◌, ◌<◌};
+ghost use Rattle.base.specs.Kit.{List, [], min, length};
 ghost use Rattle.layering.specs.Tree.{Fields};
 ghost use Rattle.layering.specs.Accepted.{end_n, end_s};
 ghost use Rattle.building.specs.Shape.{size_s};

@@ -1,5 +1,6 @@
 -- A step in either form is the same step: the list of demand 3 takes the lent form's steps too.
-use Rattle.base.specs.Kit.{List, ◌≡◌, refl, ℕ}
+use Rattle.std.specs.Prelude.{◌≡◌}
+use Rattle.base.specs.Kit.{List, refl, ℕ}
 use Rattle.scan.specs.Machine.{step}
 use Rattle.walk.specs.declared.scan_state.Walk.{Walk}
 use Rattle.lent.specs.Form.{Form, by_value, lent, step_as}

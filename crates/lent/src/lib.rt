@@ -1,10 +1,10 @@
 // The second form of the step (01, "`&mut self`"): the walk is lent and changed where it is; the answer is the same.
 //
-// `step_lent` and `step_over` take anything and have no `requires`. A function that the borrow checker covers cannot lend a
-// struct, so covered callers and programs reach the lent form through `step_over`.
+// `step_lent` and `step_over` take anything and have no `requires`. `step_over` lends a local: the lent form for a caller that has the
+// walk by value.
 #![tactic(auto)]
 
-ghost use Rattle.base.specs.Kit.{◌≡◌};
+ghost use Rattle.std.specs.Prelude.{◌≡◌};
 ghost use Rattle.scan.specs.Machine.{step};
 ghost use Rattle.lent.specs.Form.{answer_of};
 

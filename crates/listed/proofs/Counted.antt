@@ -1,5 +1,6 @@
 -- 02 [3]: the count in the first line of an accepted image's sheet is that of its pairs, which are all the live ones; each has one line.
-use Rattle.base.specs.Kit.{◌≡◌, ap, List, [], ℕ, length, eq-eqb}
+use Rattle.std.specs.Prelude.{◌≡◌}
+use Rattle.base.specs.Kit.{ap, List, [], ℕ, length, eq-eqb}
 use Rattle.base.specs.Pick.{pick}
 use Rattle.layering.specs.Keys.{live_pairs}
 use Rattle.layering.proofs.Lives.{whole_row, count-is-row}

@@ -1,5 +1,6 @@
 -- A sheet has no more lines than its image has bytes, and two.
-use Rattle.base.specs.Kit.{List, [], ℕ, ◌+◌, ◌≤◌, arith, eqb, length, eqb-true}
+use Rattle.std.specs.Prelude.{◌+◌, ◌≤◌}
+use Rattle.base.specs.Kit.{List, [], ℕ, arith, eqb, length, eqb-true}
 use Rattle.base.proofs.Choice.{pick_ind}
 use Rattle.layering.proofs.Few.{row_fits}
 use Rattle.verify.specs.Check.{check_number, check}

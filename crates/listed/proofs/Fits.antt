@@ -1,5 +1,6 @@
 -- Every line of a sheet fits into the 534 bytes that it is written into, and has at least one.
-use Rattle.base.specs.Kit.{◌≡◌, sym, ap, ◌∙◌, List, [], ◌∷◌, ℕ, ◌≤◌, ◌<◌, le_refl, zero-add, arith, length, take, length-append, length-replicate, take-length, paste, take-paste, le-leb}
+use Rattle.std.specs.Prelude.{◌≡◌, ◌∷◌, ◌≤◌, ◌<◌}
+use Rattle.base.specs.Kit.{sym, ap, ◌∙◌, List, [], ℕ, le_refl, zero-add, arith, length, take, length-append, length-replicate, take-length, paste, take-paste, le-leb}
 use Rattle.base.specs.Pick.{pick}
 use Rattle.layering.specs.Keys.{Pair}
 use Rattle.sheet.specs.Sheet.{hex_key, first_line, pair_line, last_line, refused}

@@ -1,5 +1,6 @@
 -- The ways out of the functions, one law for each.
-use Rattle.base.specs.Kit.{◌≡◌, sym, ◌∙◌, ap, subst, List, ℕ, ◌+◌, ◌%◌, ◌^◌, ◌≤◌, arith, length, take, ne_eqb}
+use Rattle.std.specs.Prelude.{◌≡◌, ◌+◌, ◌%◌, ◌^◌, ◌≤◌}
+use Rattle.base.specs.Kit.{sym, ◌∙◌, ap, subst, List, ℕ, arith, length, take, ne_eqb}
 use Rattle.base.specs.Pick.{pick}
 use Rattle.node.specs.Layout.{key_count}
 use Rattle.verify.specs.Check.{check_number, check}

@@ -1,7 +1,8 @@
 -- THE WHOLE SHEET: for every image, the lines of `open` and `next_line` together are the definition's sheet, however many more are asked
 -- for. The idea of the proof: what the walk's steps say is demand 3's row and then none, so each step's line is the next of the sheet;
 -- and demand 3's bound on the moves keeps their sum from wrapping.
-use Rattle.base.specs.Kit.{◌≡◌, refl, sym, ap, ◌∙◌, subst, Bool, true, List, [], ◌∷◌, ◌++◌, append_assoc, append-nil, ℕ, zero, suc, ◌+◌, ◌^◌, ◌≤◌, ◌<◌, zero-add, add-one, mod-eq_of_lt, arith, eqb, length, get_or, replicate, eqb-true}
+use Rattle.std.specs.Prelude.{◌≡◌, ◌∷◌, ◌++◌, ◌+◌, ◌^◌, ◌≤◌, ◌<◌}
+use Rattle.base.specs.Kit.{refl, sym, ap, ◌∙◌, subst, Bool, true, List, [], append_assoc, append-nil, ℕ, zero, suc, zero-add, add-one, mod-eq_of_lt, arith, eqb, length, get_or, replicate, eqb-true}
 use Rattle.base.specs.Pick.{pick}
 use Rattle.base.proofs.Choice.{by_test}
 use Rattle.node.specs.Layout.{key_count}

@@ -1,6 +1,7 @@
 -- The lines of a listing, one by one, as the functions give them. They serve the code: specs/Listed.antt says what all of them together
 -- come to.
-use Rattle.base.specs.Kit.{List, [], ℕ, ◌+◌, ◌%◌, ◌^◌, eqb, replicate}
+use Rattle.std.specs.Prelude.{◌+◌, ◌%◌, ◌^◌}
+use Rattle.base.specs.Kit.{List, [], ℕ, eqb, replicate}
 use Rattle.base.specs.Pick.{pick}
 use Rattle.node.specs.Layout.{key_count}
 use Rattle.verify.specs.Check.{check_number, check}

@@ -1,7 +1,8 @@
 -- THE WHOLE SHEET OF AN IMAGE (01, "Surveyed examples": "The first line has the edition and the trailer's key count; then lower-case hex
 -- key (- for empty) and decimal value; last the walk's moves"; "A declined image prints only `refused n`"), the walk being that from the
 -- empty key on, unbounded; and what all lines that the functions give come to.
-use Rattle.base.specs.Kit.{List, [], ◌∷◌, ◌++◌, ◌≡◌, ℕ, zero, suc, ◌+◌, ◌≤◌, ◌<◌, eqb, length, take, replicate}
+use Rattle.std.specs.Prelude.{◌∷◌, ◌++◌, ◌≡◌, ◌+◌, ◌≤◌, ◌<◌}
+use Rattle.base.specs.Kit.{List, [], ℕ, zero, suc, eqb, length, take, replicate}
 use Rattle.base.specs.Pick.{pick}
 use Rattle.node.specs.Layout.{key_count}
 use Rattle.layering.specs.Keys.{Pair}

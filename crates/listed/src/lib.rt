@@ -4,7 +4,8 @@
 // have no `requires`. All lines together are the sheet: specs/Listed.antt says so, and proofs/Listed.antt has the theorem.
 #![tactic(auto)]
 
-ghost use Rattle.base.specs.Kit.{◌≡◌, take};
+ghost use Rattle.std.specs.Prelude.{◌≡◌};
+ghost use Rattle.base.specs.Kit.{take};
 ghost use Rattle.scan.specs.Machine.{step};
 ghost use Rattle.sheet.specs.Sheet.{first_line, pair_line, last_line, refused};
 ghost use Rattle.listed.specs.CodeLines.{line_of, no_line, begun, opened, step_line, next_line};

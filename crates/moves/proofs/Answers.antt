@@ -1,5 +1,6 @@
 -- What the answers of calls say of the image and of a definition's choices, for the proofs of the moves.
-use Rattle.base.specs.Kit.{◌≡◌, ap, sym, ◌∙◌, subst, Bool, true, false, not, List, ℕ, ◌+◌, ◌≤◌, ◌<◌, arith, length, length-take, length-drop}
+use Rattle.std.specs.Prelude.{◌≡◌, ◌+◌, ◌≤◌, ◌<◌}
+use Rattle.base.specs.Kit.{ap, sym, ◌∙◌, subst, Bool, true, false, not, List, ℕ, arith, length, length-take, length-drop}
 use Rattle.base.proofs.Choice.{found_so}
 use Rattle.key.specs.Part.{part}
 use Rattle.node.specs.Layout.{suffix_at}

@@ -1,6 +1,7 @@
 -- A Start move with at most eight bytes left is 01's, over any bytes; in mode above, where the whole cursor has no more than eight
 -- either.
-use Rattle.base.specs.Kit.{◌≡◌, refl, List, ◌⊎◌, ℕ, ◌+◌, ◌≤◌}
+use Rattle.std.specs.Prelude.{◌≡◌, ◌⊎◌, ◌+◌, ◌≤◌}
+use Rattle.base.specs.Kit.{refl, List, ℕ}
 use Rattle.moves.specs.Types.{StartMode, From, Searched, SearchedAt as At, SearchedFault, Reached, Leaf, ReachedFault as Fault, ScanCtx}
 use Rattle.search.specs.Traversal.{reach}
 use Rattle.start.specs.Start.{first_not_below, started}

@@ -1,6 +1,7 @@
 -- What the fast path cites: `fast_facts`, what an answer of `fast_slot` says of the image; `fast-next`, that FindNext then comes to what
 -- handing out that slot's key does.
-use Rattle.base.specs.Kit.{◌≡◌, refl, ◌∙◌, ap, Bool, true, false, and-eq-true_iff, List, ℕ, ◌≤◌, ◌<◌, arith, leb-true, ltb-true, lt-leb, le-ltb, leb, ltb}
+use Rattle.std.specs.Prelude.{◌≡◌, ◌≤◌, ◌<◌}
+use Rattle.base.specs.Kit.{refl, ◌∙◌, ap, Bool, true, false, and-eq-true_iff, List, ℕ, arith, leb-true, ltb-true, lt-leb, le-ltb, leb, ltb}
 use Rattle.base.specs.Pick.{pick}
 use Rattle.node.specs.Permuter.{size_of}
 use Rattle.node.specs.Layout.{permutation_at, ikey_at, live_at}

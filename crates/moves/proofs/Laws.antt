@@ -1,6 +1,7 @@
 -- What the loop cites: `move_in_range`, a move from numbers in range leaves them in range and the buffer at its length; and the
 -- same of the loop's own steps between moves.
-use Rattle.base.specs.Kit.{◌≡◌, refl, sym, ◌∙◌, subst, Bool, true, List, ℕ, ◌+◌, ◌*◌, ◌-◌, ◌≤◌, ◌<◌, arith, leb-false, length}
+use Rattle.std.specs.Prelude.{◌≡◌, ◌+◌, ◌*◌, ◌-◌, ◌≤◌, ◌<◌}
+use Rattle.base.specs.Kit.{refl, sym, ◌∙◌, subst, Bool, true, List, ℕ, arith, leb-false, length}
 use Rattle.base.proofs.Choice.{pick_ind}
 use Rattle.node.specs.Layout.{permutation_at}
 use Rattle.node.specs.Permuter.{size_of}

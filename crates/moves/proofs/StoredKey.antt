@@ -1,5 +1,6 @@
 -- A key that can be stored: it fits the buffer, which keeps its length.
-use Rattle.base.specs.Kit.{◌≡◌, true, ◌&&◌, and-eq-true_iff, List, ℕ, ◌+◌, ◌≤◌, ◌<◌, arith, leb-true, leb-false, eqb-true, lt-leb, leb, eqb, length, length-paste}
+use Rattle.std.specs.Prelude.{◌≡◌, ◌&&◌, ◌+◌, ◌≤◌, ◌<◌}
+use Rattle.base.specs.Kit.{true, and-eq-true_iff, List, ℕ, arith, leb-true, leb-false, eqb-true, lt-leb, leb, eqb, length, length-paste}
 use Rattle.base.proofs.Choice.{pick_ind}
 use Rattle.key.specs.Ikey.{digits, ikey_bytes}
 use Rattle.node.specs.Layout.{ikey_at, keylenx_at, suffix_at}

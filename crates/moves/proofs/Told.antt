@@ -1,6 +1,7 @@
 -- THE LAW `move_told`: over any bytes and any context, a move that hands out a key tells it as the last exactly where the key that cursor and
 -- buffer then hold is the included end (02 [12]).
-use Rattle.base.specs.Kit.{◌≡◌, refl, Bool, true, List, ℕ, ◌+◌, take}
+use Rattle.std.specs.Prelude.{◌≡◌, ◌+◌}
+use Rattle.base.specs.Kit.{refl, Bool, true, List, ℕ, take}
 use Rattle.base.proofs.Choice.{pick_ind}
 use Rattle.cursor.specs.RangeBound.{tested, is_last, at_end}
 use Rattle.search.specs.Traversal.{reach}

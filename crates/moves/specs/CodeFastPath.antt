@@ -1,6 +1,7 @@
 -- The fast path: the slot at a walk's position where no test of FindNext turns its key away but the bound's. It serves the code alone:
 -- proofs/FastLaws.antt has that FindNext hands out that slot's key, or ends by it.
-use Rattle.base.specs.Kit.{true, false, ◌&&◌, List, ℕ, ◌+◌, leb, ltb, take}
+use Rattle.std.specs.Prelude.{◌&&◌, ◌+◌}
+use Rattle.base.specs.Kit.{true, false, List, ℕ, leb, ltb, take}
 use Rattle.base.specs.Pick.{pick}
 use Rattle.node.specs.Permuter.{size_of}
 use Rattle.node.specs.Layout.{permutation_at, ikey_at, value_at, live_at}

@@ -1,5 +1,6 @@
 -- What the functions of the moves ask of a walk's numbers.
-use Rattle.base.specs.Kit.{◌≡◌, ℕ, ◌+◌, ◌*◌, ◌≤◌}
+use Rattle.std.specs.Prelude.{◌≡◌, ◌+◌, ◌*◌, ◌≤◌}
+use Rattle.base.specs.Kit.{ℕ}
 use Rattle.moves.specs.Types.{ScanState, Start, Retry, FindNext, Down, Up, ScanCtx}
 
 -- What a move asks of the numbers: the key within the buffer, and a layer above for Up.

@@ -1,6 +1,7 @@
 -- One move in each state, over any bytes and any walk record (01, "Modules", the list Start, Retry, FindNext, Down, Up; the
 -- Rust's forward_ctx.rs). A move takes what goes by value, `c`, and the buffer; the loop holds the stack.
-use Rattle.base.specs.Kit.{Bool, true, false, not, ◌&&◌, ◌||◌, List, ℕ, ◌+◌, leb, ltb, eqb, take}
+use Rattle.std.specs.Prelude.{◌&&◌, ◌||◌, ◌+◌}
+use Rattle.base.specs.Kit.{Bool, true, false, not, List, ℕ, leb, ltb, eqb, take}
 use Rattle.base.specs.Pick.{pick}
 use Rattle.node.specs.Permuter.{size_of}
 use Rattle.node.specs.Layout.{permutation_at, ikey_at, keylenx_at, value_at, live_at, suffix_at, next_at}

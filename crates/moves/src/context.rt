@@ -1,6 +1,6 @@
 // What goes from move to move (the Rust's scan_state.rs, and its ForwardScanCtx without the buffer and the layer stack, which the loop
 // holds), and what a move comes to.
-ghost use Rattle.base.specs.Kit.{◌≡◌, ◌≤◌};
+ghost use Rattle.std.specs.Prelude.{◌≡◌, ◌≤◌};
 ghost use Rattle.moves.specs.Moves.{stand_at, in_layer, faulted, standing, onward};
 
 use cursor::cursor_key::CursorPlace;

@@ -1,7 +1,8 @@
 // The fast path, which the Rust has not: after a key most moves hand out the next slot's key, and no test but the bound's turns it away.
 // The loop, the step and the step of a C record all make such a move by these two functions, with `store_key` between them, each on the
 // walk as it has it; `one_move` makes every other.
-ghost use Rattle.base.specs.Kit.{◌≡◌, ◌+◌, ◌≤◌, length};
+ghost use Rattle.std.specs.Prelude.{◌≡◌, ◌+◌, ◌≤◌};
+ghost use Rattle.base.specs.Kit.{length};
 ghost use Rattle.node.specs.Layout.{InLeaf, InSlot};
 ghost use Rattle.moves.specs.CodeFastPath.{fast_slot, next_of};
 

@@ -1,5 +1,6 @@
 // FindNext (the Rust's find_next and find_next_with_dup_check): the slot at the walk's position, or the leaf after its last.
-ghost use Rattle.base.specs.Kit.{◌≡◌, true, ◌+◌, ◌≤◌};
+ghost use Rattle.std.specs.Prelude.{◌≡◌, ◌+◌, ◌≤◌};
+ghost use Rattle.base.specs.Kit.{true};
 ghost use Rattle.node.specs.Layout.{InLeaf, InSlot};
 ghost use Rattle.search.specs.Traversal.{leaf_there};
 ghost use Rattle.moves.specs.Moves.{advance_leaf, dup_level, dup_of, dup_due, is_storable, outcome_on, take_key, take_layer, take_slot, find_slot, find_next};

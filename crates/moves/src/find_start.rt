@@ -1,5 +1,5 @@
 // Start and Retry: from a layer's root to the first slot that is not passed over.
-ghost use Rattle.base.specs.Kit.{◌≡◌, ◌+◌, ◌≤◌, ◌<◌};
+ghost use Rattle.std.specs.Prelude.{◌≡◌, ◌+◌, ◌≤◌, ◌<◌};
 ghost use Rattle.node.specs.Layout.{InLeaf, InSlot};
 ghost use Rattle.moves.specs.Types.{Enter, Leaf};
 ghost use Rattle.moves.specs.Moves.{begin, start_in, find_start, find_retry};

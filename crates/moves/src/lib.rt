@@ -6,7 +6,8 @@
 // buffer, which the step's test of a walk's numbers (21) gives; whatever the image says is an answer.
 #![tactic(auto)]
 
-ghost use Rattle.base.specs.Kit.{◌≡◌, true, ◌≤◌};
+ghost use Rattle.std.specs.Prelude.{◌≡◌, ◌≤◌};
+ghost use Rattle.base.specs.Kit.{true};
 ghost use Rattle.search.specs.Traversal.{leaf_there};
 ghost use Rattle.moves.specs.Moves.{handle_down, handle_up, pass_in};
 ghost use Rattle.moves.specs.CodeMoves.{MoveOk};

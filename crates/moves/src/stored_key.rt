@@ -1,5 +1,6 @@
 // A slot's key in cursor and buffer: FindNext and the fast path both store it so.
-ghost use Rattle.base.specs.Kit.{◌≡◌, true, ◌≤◌, length};
+ghost use Rattle.std.specs.Prelude.{◌≡◌, ◌≤◌};
+ghost use Rattle.base.specs.Kit.{true, length};
 ghost use Rattle.node.specs.Layout.{InSlot};
 ghost use Rattle.moves.specs.Moves.{is_storable, key_place, key_buf};
 

@@ -1,5 +1,6 @@
 -- What the length test says of an image's length.
-use Rattle.base.specs.Kit.{◌≡◌, true, ◌&&◌, and-eq-true_iff, ℕ, ◌%◌, ◌≤◌, leb, eqb, leb-true, eqb-true}
+use Rattle.std.specs.Prelude.{◌≡◌, ◌&&◌, ◌%◌, ◌≤◌}
+use Rattle.base.specs.Kit.{true, and-eq-true_iff, ℕ, leb, eqb, leb-true, eqb-true}
 use Rattle.node.specs.Heading.{length_ok}
 
 -- 01's number 1 is not met

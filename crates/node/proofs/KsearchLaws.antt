@@ -1,5 +1,6 @@
 -- The search in an internode, one separator at a time, and the bound of what it finds.
-use Rattle.base.specs.Kit.{◌≡◌, List, ℕ, zero, suc, ◌+◌, ◌-◌, ◌<◌, ◌≤◌, arith, le-ltb, lt-ltb, eq-eqb, ne_eqb, ltb, eqb}
+use Rattle.std.specs.Prelude.{◌≡◌, ◌+◌, ◌-◌, ◌<◌, ◌≤◌}
+use Rattle.base.specs.Kit.{List, ℕ, zero, suc, arith, le-ltb, lt-ltb, eq-eqb, ne_eqb, ltb, eqb}
 use Rattle.base.specs.Pick.{pick}
 use Rattle.base.proofs.Choice.{pick_ind}
 use Rattle.base.proofs.Count.{left-more}

@@ -1,5 +1,6 @@
 -- Laws of little-endian numbers: a wide one is its low part and its high part.
-use Rattle.base.specs.Kit.{◌≡◌, List, ℕ, zero, suc, ◌+◌, ◌*◌, ◌^◌, add-zero, zero-add, suc-add, pow-zero, pow-succ', one-mul, arith}
+use Rattle.std.specs.Prelude.{◌≡◌, ◌+◌, ◌*◌, ◌^◌}
+use Rattle.base.specs.Kit.{List, ℕ, zero, suc, add-zero, zero-add, suc-add, pow-zero, pow-succ', one-mul, arith}
 use Rattle.node.specs.Le.{le, u16_at, u32_at, u64_at}
 
 -- m + n bytes: the first m are the low part, the n behind them the high part

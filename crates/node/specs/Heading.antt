@@ -1,6 +1,7 @@
 -- What is asked of an image before its tree is looked at (01, "Check an image": "1: length under 440, over 16,777,216, or
 -- no multiple of 8. 2: stated length differs, or edition is not 1"). The check and the placing both begin with it.
-use Rattle.base.specs.Kit.{Bool, ◌&&◌, List, ℕ, ◌%◌, leb, eqb, length}
+use Rattle.std.specs.Prelude.{◌&&◌, ◌%◌}
+use Rattle.base.specs.Kit.{Bool, List, ℕ, leb, eqb, length}
 use Rattle.base.specs.Pick.{pick}
 use Rattle.node.specs.Layout.{stated_length, edition}
 

@@ -1,5 +1,6 @@
 -- The search in an internode (01, module 5: "a search equal to separator i goes to child i+1").
-use Rattle.base.specs.Kit.{List, ℕ, zero, suc, ◌+◌, ltb, eqb}
+use Rattle.std.specs.Prelude.{◌+◌}
+use Rattle.base.specs.Kit.{List, ℕ, zero, suc, ltb, eqb}
 use Rattle.base.specs.Pick.{pick}
 use Rattle.node.specs.Layout.{separator_at}
 

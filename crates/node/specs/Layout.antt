@@ -1,6 +1,7 @@
 -- Where each field of an image stands (01, "The image"). `image` is the image's bytes, `leaf` and `at` are offsets that
 -- count from its start.
-use Rattle.base.specs.Kit.{Bool, List, ℕ, ◌+◌, ◌*◌, ◌/◌, ◌%◌, ◌-◌, ◌^◌, ◌≤◌, ◌<◌, length, get_or}
+use Rattle.std.specs.Prelude.{◌+◌, ◌*◌, ◌/◌, ◌%◌, ◌-◌, ◌^◌, ◌≤◌, ◌<◌}
+use Rattle.base.specs.Kit.{Bool, List, ℕ, length, get_or}
 use Rattle.node.specs.Le.{u16_at, u32_at, u64_at}
 use Rattle.node.specs.Version.{bit}
 use Rattle.node.specs.declared.permuter.Slot.{Slot}

@@ -1,5 +1,6 @@
 -- Little-endian numbers (01, "The image": "Integers are little-endian").
-use Rattle.base.specs.Kit.{List, ℕ, zero, suc, ◌+◌, ◌*◌, get_or}
+use Rattle.std.specs.Prelude.{◌+◌, ◌*◌}
+use Rattle.base.specs.Kit.{List, ℕ, zero, suc, get_or}
 
 -- The n bytes of s from `at` on as one number, the low byte first.
 unfoldable pub le : ℕ → List ℕ → ℕ → ℕ

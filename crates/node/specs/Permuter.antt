@@ -1,6 +1,7 @@
 -- The permutation (01, "The image": "The permutation's low four bits are the size, the next fifteen four-bit fields the
 -- slots in order"; "A position in the order and a slot number are kept apart").
-use Rattle.base.specs.Kit.{ℕ, ◌+◌, ◌*◌, ◌/◌, ◌%◌, ◌^◌}
+use Rattle.std.specs.Prelude.{◌+◌, ◌*◌, ◌/◌, ◌%◌, ◌^◌}
+use Rattle.base.specs.Kit.{ℕ}
 use Rattle.node.specs.declared.permuter.Position.{Position}
 use Rattle.node.specs.declared.permuter.Slot.{Slot}
 

@@ -1,6 +1,7 @@
 -- Version bits (01, "The image": "Version bit 31 marks a leaf; bits 0, 1, 2 and 29 (lock, inserting, splitting,
 -- deleted) are clear at rest"). No other bit is read.
-use Rattle.base.specs.Kit.{Bool, true, false, ℕ, ◌/◌, ◌%◌, ◌^◌, eqb}
+use Rattle.std.specs.Prelude.{◌/◌, ◌%◌, ◌^◌}
+use Rattle.base.specs.Kit.{Bool, true, false, ℕ, eqb}
 use Rattle.base.specs.Pick.{pick}
 
 -- Whether bit k of a word is set.

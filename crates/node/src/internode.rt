@@ -1,5 +1,5 @@
 // An internode's fields (the Rust's internode/accessors.rs), by the lent image and the record's offset.
-ghost use Rattle.base.specs.Kit.{◌≡◌, ◌+◌, ◌<◌};
+ghost use Rattle.std.specs.Prelude.{◌≡◌, ◌+◌, ◌<◌};
 ghost use Rattle.node.specs.Layout.{InInternode, nkeys_at, separator_at, child_at};
 
 use crate::le;

@@ -1,5 +1,5 @@
 // The search in an internode (the Rust's ksearch/scalar.rs).
-ghost use Rattle.base.specs.Kit.{◌≡◌, ◌+◌, ◌≤◌};
+ghost use Rattle.std.specs.Prelude.{◌≡◌, ◌+◌, ◌≤◌};
 ghost use Rattle.node.specs.Layout.{InInternode};
 ghost use Rattle.node.specs.Ksearch.{upper_bound};
 

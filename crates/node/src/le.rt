@@ -1,5 +1,6 @@
 // Little-endian numbers in a lent slice.
-ghost use Rattle.base.specs.Kit.{◌≡◌, ◌+◌, ◌*◌, ◌≤◌, length};
+ghost use Rattle.std.specs.Prelude.{◌≡◌, ◌+◌, ◌*◌, ◌≤◌};
+ghost use Rattle.base.specs.Kit.{length};
 ghost use Rattle.node.specs.Le.{u16_at, u32_at, u64_at};
 
 // The number of two bytes, the low one first.

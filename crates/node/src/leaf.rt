@@ -1,7 +1,7 @@
 // A leaf's fields (the Rust's leaf15/layout.rs). They are read through one reader that holds the image and the leaf's
 // place: functions on slice and number, a method of the reader over each, and for every other caller a function with
 // plain parameters above it.
-ghost use Rattle.base.specs.Kit.{◌≡◌, ◌+◌};
+ghost use Rattle.std.specs.Prelude.{◌≡◌, ◌+◌};
 ghost use Rattle.node.specs.Layout.{InLeaf, InSlot, permutation_at, ikey_at, keylenx_at, value_at, suffix_at, live_at, next_at};
 
 use crate::le;

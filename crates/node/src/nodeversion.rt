@@ -1,6 +1,6 @@
 // A record's version word (the Rust's nodeversion.rs): the leaf bit, and the four bits that are clear at rest. Leaves and internodes both
 // begin with it, and it is read before either is known: so it is no field of the leaf's reader.
-ghost use Rattle.base.specs.Kit.{◌≡◌, ◌<◌};
+ghost use Rattle.std.specs.Prelude.{◌≡◌, ◌<◌};
 ghost use Rattle.node.specs.Layout.{InInternode, version_at};
 ghost use Rattle.node.specs.Version.{bit, is_leaf, at_rest};
 

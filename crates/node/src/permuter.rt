@@ -1,6 +1,6 @@
 // A leaf's permutation (the Rust's permuter.rs): how many slots are used, and which slot stands at a position of their
 // order. A position and a slot are kept apart; the permutation alone turns one into the other.
-ghost use Rattle.base.specs.Kit.{◌≡◌, ◌<◌};
+ghost use Rattle.std.specs.Prelude.{◌≡◌, ◌<◌};
 ghost use Rattle.node.specs.Permuter.{size_of, slot_at};
 
 // A position in the order of the keys.

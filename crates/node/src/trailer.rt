@@ -1,5 +1,6 @@
 // The trailer's fields: the last 32 bytes of an image.
-ghost use Rattle.base.specs.Kit.{◌≡◌, ◌≤◌, length};
+ghost use Rattle.std.specs.Prelude.{◌≡◌, ◌≤◌};
+ghost use Rattle.base.specs.Kit.{length};
 ghost use Rattle.node.specs.Layout.{root_offset, key_count, stated_length, edition};
 ghost use Rattle.node.specs.Heading.{length_ok, heading_fault};
 

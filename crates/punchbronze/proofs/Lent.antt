@@ -1,6 +1,7 @@
 -- What is left in lent output: the check's counts and the tally's count, once they are put there; and what `pb_step` leaves, from the step
 -- of the record.
-use Rattle.base.specs.Kit.{◌≡◌, refl, sym, ◌∙◌, List, [], ◌∷◌, ℕ, arith, eqb, length, replicate, eqb-true, eq-eqb, ne_eqb}
+use Rattle.std.specs.Prelude.{◌≡◌, ◌∷◌}
+use Rattle.base.specs.Kit.{refl, sym, ◌∙◌, List, [], ℕ, arith, eqb, length, replicate, eqb-true, eq-eqb, ne_eqb}
 use Rattle.base.specs.Pick.{pick}
 use Rattle.base.proofs.Choice.{by_test}
 use Rattle.record_step.specs.Step.{said_in, step_number, left}

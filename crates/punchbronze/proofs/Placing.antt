@@ -1,5 +1,6 @@
 -- THE THEOREM `place_keeps`: the record of a placing, declined or not, is a walk's, and reads back as the placing's walk.
-use Rattle.base.specs.Kit.{◌≡◌, refl, true, not, List, ℕ, ◌≤◌, arith, eqb, length, eqb-true, not-false}
+use Rattle.std.specs.Prelude.{◌≡◌, ◌≤◌}
+use Rattle.base.specs.Kit.{refl, true, not, List, ℕ, arith, eqb, length, eqb-true, not-false}
 use Rattle.base.proofs.Choice.{pick_ind}
 use Rattle.key.proofs.Ikey.{padded-length}
 use Rattle.cursor.specs.CursorKey.{from_slice}

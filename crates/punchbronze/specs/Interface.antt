@@ -1,7 +1,8 @@
 -- What the functions that C calls return, and what they leave in each slice that is lent to them. LENT OUTPUT is treated one way (01: "A
 -- declined call returns its number, zero elsewhere"): where it has the length of what is to be said, it is written, with zeros where the
 -- call is declined; where it has another length, it stays.
-use Rattle.base.specs.Kit.{Bool, List, [], ◌∷◌, ◌≡◌, ℕ, eqb, length, replicate}
+use Rattle.std.specs.Prelude.{◌∷◌, ◌≡◌}
+use Rattle.base.specs.Kit.{Bool, List, [], ℕ, eqb, length, replicate}
 use Rattle.base.specs.Pick.{pick}
 use Rattle.punchbronze.specs.Types.{Checked, Placed, Tallied}
 use Rattle.verify.specs.Check.{check_counts}

@@ -1,5 +1,6 @@
 -- What a reader that got something has passed: laws of `next`, `after` and `pick` over `Got`.
-use Rattle.base.specs.Kit.{◌≡◌, refl, sym, ◌∙◌, ap₂, Bool, true, false, false≢true, List, [], ◌∷◌, ◌++◌, ℕ, ◌≤◌, arith, eqb, length, drop, eqb-true, eq-eqb, subst₂}
+use Rattle.std.specs.Prelude.{◌≡◌, ◌∷◌, ◌++◌, ◌≤◌}
+use Rattle.base.specs.Kit.{refl, sym, ◌∙◌, ap₂, Bool, true, false, false≢true, List, [], ℕ, arith, eqb, length, drop, eqb-true, eq-eqb, subst₂}
 use Rattle.base.specs.Pick.{pick}
 use Rattle.reading.specs.Read.{Got, none, got, next, after}
 use Rattle.reading.specs.CodeViews.{word_at}

@@ -1,5 +1,6 @@
 -- Keys: what is read has the text it was read from, and every key is read where it stands.
-use Rattle.base.specs.Kit.{◌≡◌, refl, ap, ap₂, sym, ◌∙◌, true, ◌&&◌, and-eq-true_iff, List, [], ◌∷◌, ◌++◌, ℕ, zero, suc, ◌+◌, ◌*◌, ◌-◌, ◌/◌, ◌%◌, ◌<◌, ◌≤◌, arith, ltb, leb, eqb, length, get_or, ltb-true, ltb-false, leb-true, eqb-true, lt-ltb, le-ltb, le-leb, ne_eqb}
+use Rattle.std.specs.Prelude.{◌≡◌, ◌&&◌, ◌∷◌, ◌++◌, ◌+◌, ◌*◌, ◌-◌, ◌/◌, ◌%◌, ◌<◌, ◌≤◌}
+use Rattle.base.specs.Kit.{refl, ap, ap₂, sym, ◌∙◌, true, and-eq-true_iff, List, [], ℕ, zero, suc, arith, ltb, leb, eqb, length, get_or, ltb-true, ltb-false, leb-true, eqb-true, lt-ltb, le-ltb, le-leb, ne_eqb}
 use Rattle.base.specs.Pick.{pick}
 use Rattle.base.proofs.Choice.{pick_ind, by_test}
 use Rattle.sheet.specs.Sheet.{hex_digit, hex_bytes, hex_key}

@@ -1,5 +1,6 @@
 -- A line and its parts at a place of a slice: one law for each way out of the code that reads it.
-use Rattle.base.specs.Kit.{◌≡◌, refl, ap, sym, ◌∙◌, true, false, false≢true, List, [], ◌∷◌, ◌++◌, append_assoc, ℕ, suc, ◌+◌, ◌*◌, ◌<◌, ◌≤◌, add-one, arith, eqb, length, get_or, drop, take, drop_of_length-le, length-drop, length-append, drop-cons, drop-drop, length-take-le, take_at, eq-eqb, ne_eqb}
+use Rattle.std.specs.Prelude.{◌≡◌, ◌∷◌, ◌++◌, ◌+◌, ◌*◌, ◌<◌, ◌≤◌}
+use Rattle.base.specs.Kit.{refl, ap, sym, ◌∙◌, true, false, false≢true, List, [], append_assoc, ℕ, suc, add-one, arith, eqb, length, get_or, drop, take, drop_of_length-le, length-drop, length-append, drop-cons, drop-drop, length-take-le, take_at, eq-eqb, ne_eqb}
 use Rattle.base.specs.Pick.{pick}
 use Rattle.base.proofs.Choice.{pick_ind}
 use Rattle.key.specs.Part.{part}

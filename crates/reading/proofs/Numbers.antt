@@ -1,5 +1,6 @@
 -- Decimals, alone and at a line's end: what is read has the text it was read from, and every decimal is read where no digit follows.
-use Rattle.base.specs.Kit.{◌≡◌, refl, ap, sym, ◌∙◌, Bool, true, false, not, and-eq-true_iff, List, [], ◌∷◌, ◌++◌, append_assoc, ℕ, zero, suc, ◌+◌, ◌*◌, ◌-◌, ◌/◌, ◌%◌, ◌^◌, ◌<◌, ◌≤◌, arith, ltb, leb, eqb, ltb-true, ltb-false, not-true, leb-true, eqb-true, eqb-false, lt-ltb, le-leb, lt-leb, ne_eqb}
+use Rattle.std.specs.Prelude.{◌≡◌, ◌∷◌, ◌++◌, ◌+◌, ◌*◌, ◌-◌, ◌/◌, ◌%◌, ◌^◌, ◌<◌, ◌≤◌}
+use Rattle.base.specs.Kit.{refl, ap, sym, ◌∙◌, Bool, true, false, not, and-eq-true_iff, List, [], append_assoc, ℕ, zero, suc, arith, ltb, leb, eqb, ltb-true, ltb-false, not-true, leb-true, eqb-true, eqb-false, lt-ltb, le-leb, lt-leb, ne_eqb}
 use Rattle.base.specs.Pick.{pick}
 use Rattle.base.proofs.Choice.{by_test}
 use Rattle.sheet.specs.Sheet.{decimal}

@@ -1,5 +1,6 @@
 -- The pairs of the lines from a place on: the first of them, as `station_at` reads it; a run of lines in two parts; and those of a sheet.
-use Rattle.base.specs.Kit.{◌≡◌, refl, sym, ap, subst, ◌∙◌, true, false, List, [], ◌∷◌, ◌++◌, ℕ, zero, suc, ◌+◌, ◌-◌, ◌≤◌, ◌<◌, arith, zero-add, length, length-append, take, drop, drop_at, sets, sets-eq, take_at}
+use Rattle.std.specs.Prelude.{◌≡◌, ◌∷◌, ◌++◌, ◌+◌, ◌-◌, ◌≤◌, ◌<◌}
+use Rattle.base.specs.Kit.{refl, sym, ap, subst, ◌∙◌, true, false, List, [], ℕ, zero, suc, arith, zero-add, length, length-append, take, drop, drop_at, sets, sets-eq, take_at}
 use Rattle.base.specs.Pick.{pick}
 use Rattle.base.proofs.Choice.{pick_ind, by_test}
 use Rattle.layering.specs.Keys.{Pair}

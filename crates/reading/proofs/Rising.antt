@@ -1,6 +1,7 @@
 -- The order of the keys: hex text has the order of the bytes it spells, so that a loop reads it off the texts; and keys that rise are
 -- `Ascending`.
-use Rattle.base.specs.Kit.{◌≡◌, refl, sym, ap, ◌∙◌, Bool, true, false, ◌&&◌, and-eq-true_iff, List, [], ◌∷◌, ℕ, suc, ◌/◌, ◌%◌, ◌≤◌, ◌<◌, arith, ltb, leb, length, ltb-true, ltb-false, leb-true, le-leb, lt-leb, leb-false}
+use Rattle.std.specs.Prelude.{◌≡◌, ◌&&◌, ◌∷◌, ◌/◌, ◌%◌, ◌≤◌, ◌<◌}
+use Rattle.base.specs.Kit.{refl, sym, ap, ◌∙◌, Bool, true, false, and-eq-true_iff, List, [], ℕ, suc, arith, ltb, leb, length, ltb-true, ltb-false, leb-true, le-leb, lt-leb, leb-false}
 use Rattle.base.proofs.Choice.{by_test}
 use Rattle.key.specs.Order.{byte_order}
 use Rattle.key.specs.declared.Ordering.{Ordering}

@@ -1,5 +1,6 @@
 -- THE READER IS THE INVERSE OF THE TEXT.
-use Rattle.base.specs.Kit.{◌≡◌, refl, ap, ap₂, sym, ◌∙◌, true, List, [], ◌∷◌, ◌++◌, append_assoc, append-nil, ℕ, zero, suc, ◌<◌, ◌^◌, arith, length}
+use Rattle.std.specs.Prelude.{◌≡◌, ◌∷◌, ◌++◌, ◌<◌, ◌^◌}
+use Rattle.base.specs.Kit.{refl, ap, ap₂, sym, ◌∙◌, true, List, [], append_assoc, append-nil, ℕ, zero, suc, arith, length}
 use Rattle.base.proofs.Choice.{pick_ind}
 use Rattle.layering.specs.Keys.{Pair}
 use Rattle.layering.specs.Ascending.{All}

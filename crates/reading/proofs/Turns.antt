@@ -1,5 +1,6 @@
 -- The readers' loops, a turn each, and what a reader of the rest of a slice says, by the byte that stands there.
-use Rattle.base.specs.Kit.{◌≡◌, refl, sym, Bool, true, false, false≢true, ◌&&◌, List, [], ◌∷◌, ℕ, suc, ◌+◌, ◌*◌, ◌-◌, ◌^◌, ◌<◌, ◌≤◌, add-one, arith, ltb, length, get_or, drop, set, drop_of_length-le, drop-cons, lt-ltb, le-ltb, le-leb, lt-leb, eq-eqb, ne_eqb, sets}
+use Rattle.std.specs.Prelude.{◌≡◌, ◌&&◌, ◌∷◌, ◌+◌, ◌*◌, ◌-◌, ◌^◌, ◌<◌, ◌≤◌}
+use Rattle.base.specs.Kit.{refl, sym, Bool, true, false, false≢true, List, [], ℕ, suc, add-one, arith, ltb, length, get_or, drop, set, drop_of_length-le, drop-cons, lt-ltb, le-ltb, le-leb, lt-leb, eq-eqb, ne_eqb, sets}
 use Rattle.base.specs.Pick.{pick}
 use Rattle.reading.specs.Read.{Got, none, got, digit, digits, number, nibble, hex_pair, hex_byte, key_bytes}
 use Rattle.reading.specs.CodeViews.{number_seen, NumberRead, byte_seen, word_at}

@@ -1,5 +1,6 @@
 -- Stations as the loop passes them, and a whole sheet: one law for each way out of the code that reads it.
-use Rattle.base.specs.Kit.{◌≡◌, refl, ap, sym, ◌∙◌, Bool, true, false, ◌&&◌, List, [], ℕ, suc, ◌+◌, ◌*◌, ◌≤◌, arith, eqb, length, drop, length-append, length-drop}
+use Rattle.std.specs.Prelude.{◌≡◌, ◌&&◌, ◌+◌, ◌*◌, ◌≤◌}
+use Rattle.base.specs.Kit.{refl, ap, sym, ◌∙◌, Bool, true, false, List, [], ℕ, suc, arith, eqb, length, drop, length-append, length-drop}
 use Rattle.base.specs.Pick.{pick}
 use Rattle.base.proofs.Choice.{by_test}
 use Rattle.layering.specs.Keys.{Pair}

@@ -1,5 +1,6 @@
 -- What the code's answers say, as Read.antt says it: `next` is the place in s where the text behind a thing starts.
-use Rattle.base.specs.Kit.{◌≡◌, Bool, true, false, ◌&&◌, List, [], ◌∷◌, ℕ, ◌+◌, ◌*◌, ◌≤◌, ◌<◌, leb, eqb, length, drop, sets}
+use Rattle.std.specs.Prelude.{◌≡◌, ◌&&◌, ◌∷◌, ◌+◌, ◌*◌, ◌≤◌, ◌<◌}
+use Rattle.base.specs.Kit.{Bool, true, false, List, [], ℕ, leb, eqb, length, drop, sets}
 use Rattle.base.specs.Pick.{pick}
 use Rattle.key.specs.Order.{byte_order}
 use Rattle.layering.specs.Keys.{Pair}

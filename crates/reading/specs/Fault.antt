@@ -1,6 +1,7 @@
 -- WHAT A READER OF SHEETS DECLINES (02 [2]: "31 a line not in the sheet's form or a wrong key count, 32 key over 256 bytes or not above
 -- the one before, .. in that order over the whole sheet").
-use Rattle.base.specs.Kit.{Bool, true, false, ◌&&◌, List, [], ◌∷◌, ℕ, leb, length}
+use Rattle.std.specs.Prelude.{◌&&◌, ◌∷◌}
+use Rattle.base.specs.Kit.{Bool, true, false, List, [], ℕ, leb, length}
 use Rattle.base.specs.Pick.{pick}
 use Rattle.key.specs.Order.{byte_order}
 use Rattle.key.specs.declared.Ordering.{Ordering}

@@ -1,5 +1,6 @@
 -- WHICH SHEETS HAVE A TEXT: keys are byte strings, and decimals "stay below 2^64" (01).
-use Rattle.base.specs.Kit.{ℕ, ◌<◌, ◌^◌, length, get_or}
+use Rattle.std.specs.Prelude.{◌<◌, ◌^◌}
+use Rattle.base.specs.Kit.{ℕ, length, get_or}
 use Rattle.layering.specs.Keys.{Pair}
 use Rattle.layering.specs.Ascending.{All}
 use Rattle.reading.specs.Form.{Sheet}

@@ -1,6 +1,7 @@
 -- THE PAIRS OF THE LINES FROM A PLACE ON: of up to n station lines at the front of a text, and the text behind these lines. Where the
 -- lines are those of a sheet, they are its pairs (proofs/Pairs.antt).
-use Rattle.base.specs.Kit.{List, [], ◌∷◌, ℕ, zero, suc}
+use Rattle.std.specs.Prelude.{◌∷◌}
+use Rattle.base.specs.Kit.{List, [], ℕ, zero, suc}
 use Rattle.layering.specs.Keys.{Pair}
 use Rattle.reading.specs.Read.{Got, none, got, station}
 

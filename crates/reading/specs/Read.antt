@@ -1,6 +1,7 @@
 -- A SHEET READ FROM ITS TEXT (02 [2]: "Read sheet edition 1"). It is the inverse of `text` (proofs/Sheets.antt): what is read has exactly the
 -- text it was read from, and every text of a sheet is read as that sheet.
-use Rattle.base.specs.Kit.{Bool, ◌&&◌, List, [], ◌∷◌, ℕ, zero, suc, ◌+◌, ◌*◌, ◌-◌, ◌^◌, ltb, leb, eqb}
+use Rattle.std.specs.Prelude.{◌&&◌, ◌∷◌, ◌+◌, ◌*◌, ◌-◌, ◌^◌}
+use Rattle.base.specs.Kit.{Bool, List, [], ℕ, zero, suc, ltb, leb, eqb}
 use Rattle.base.specs.Pick.{pick}
 use Rattle.layering.specs.Keys.{Pair}
 use Rattle.reading.specs.Form.{Sheet}

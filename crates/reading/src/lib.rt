@@ -4,7 +4,8 @@
 // what it is, and the place behind it; where it does not, all is zero.
 #![tactic(auto)]
 
-ghost use Rattle.base.specs.Kit.{◌≡◌, [], Bool, ◌&&◌, ◌+◌, ◌*◌, ◌≤◌, ◌<◌, eqb, length, drop, set};
+ghost use Rattle.std.specs.Prelude.{◌≡◌, ◌&&◌, ◌+◌, ◌*◌, ◌≤◌, ◌<◌};
+ghost use Rattle.base.specs.Kit.{[], Bool, eqb, length, drop, set};
 ghost use Rattle.base.specs.Pick.{pick};
 ghost use Rattle.key.specs.Part.{part};
 ghost use Rattle.reading.specs.Read.{digits, number, word_number, nibble, hex_byte, stations, read_end};

@@ -1,5 +1,6 @@
 -- A step on a record in place: the record with the next slot's key in it is the record's step.
-use Rattle.base.specs.Kit.{◌≡◌, refl, sym, ◌∙◌, ap, Bool, true, false, List, ℕ, ◌+◌, ◌≤◌, arith, eqb, length, get_or}
+use Rattle.std.specs.Prelude.{◌≡◌, ◌+◌, ◌≤◌}
+use Rattle.base.specs.Kit.{refl, sym, ◌∙◌, ap, Bool, true, false, List, ℕ, arith, eqb, length, get_or}
 use Rattle.base.specs.Pick.{pick}
 use Rattle.base.proofs.Choice.{pick_ind}
 use Rattle.key.specs.Part.{part}

@@ -1,6 +1,7 @@
 -- THE THEOREM `step_keeps`: after a step of a record's walk the record, with the bound that it had, is again a walk's, and reads back
 -- as the walk after the step. Every move keeps the lengths of buffer and stack (scan/proofs/Kept.antt), and no step changes the bound.
-use Rattle.base.specs.Kit.{◌≡◌, refl, ap, subst, Bool, true, not, List, ℕ, length, take, not-false}
+use Rattle.std.specs.Prelude.{◌≡◌}
+use Rattle.base.specs.Kit.{refl, ap, subst, Bool, true, not, List, ℕ, length, take, not-false}
 use Rattle.base.proofs.Choice.{pick_ind}
 use Rattle.record_step.specs.Types.{RangeBound, Walk, Answer, Key, Nothing, Declined, Stepped}
 use Rattle.walk.specs.Walk.{walk_ok}

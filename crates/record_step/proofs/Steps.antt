@@ -1,5 +1,6 @@
 -- The ways a step over a lent record comes out, one law for each.
-use Rattle.base.specs.Kit.{◌≡◌, sym, ◌∙◌, true, false, List, ℕ, arith, length, eq-eqb, ne_eqb}
+use Rattle.std.specs.Prelude.{◌≡◌}
+use Rattle.base.specs.Kit.{sym, ◌∙◌, true, false, List, ℕ, arith, length, eq-eqb, ne_eqb}
 use Rattle.base.specs.Pick.{pick}
 use Rattle.walk.specs.Walk.{number_of, answer_numbers}
 use Rattle.scan.specs.Machine.{step}

@@ -1,6 +1,7 @@
 -- The fast path of a step on a record, as the functions make it. It serves the code alone: specs/Interface.antt says what a step of a
 -- record comes to.
-use Rattle.base.specs.Kit.{Bool, List, [], ℕ, ◌+◌, get_or, set}
+use Rattle.std.specs.Prelude.{◌+◌}
+use Rattle.base.specs.Kit.{Bool, List, [], ℕ, get_or, set}
 use Rattle.record_step.specs.Types.{CursorPlace, HandedOut, WalkState}
 use Rattle.walk.specs.Walk.{walk_ok}
 use Rattle.walk_record.specs.Record.{position_at, offset_at, len_at, ikey_at, state_at, last_depth_at, count_at, state_number, read_walk}

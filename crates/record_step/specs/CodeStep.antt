@@ -1,6 +1,7 @@
 -- What the functions here leave of a step: `out` is written where the step is not declined, and stays else. What a caller in C is left
 -- with is punchbronze's.
-use Rattle.base.specs.Kit.{List, ◌≡◌, ℕ}
+use Rattle.std.specs.Prelude.{◌≡◌}
+use Rattle.base.specs.Kit.{List, ℕ}
 use Rattle.walk.specs.Walk.{answer_numbers}
 use Rattle.record_step.specs.Step.{step_of, step_number, left, step_numbers, step_buf}
 

@@ -1,5 +1,6 @@
 // A record's numbers, read and changed where they are, for the step that hands out the next slot's key.
-ghost use Rattle.base.specs.Kit.{◌≡◌, ◌^◌, ◌≤◌, ◌<◌, length, get_or};
+ghost use Rattle.std.specs.Prelude.{◌≡◌, ◌^◌, ◌≤◌, ◌<◌};
+ghost use Rattle.base.specs.Kit.{length, get_or};
 ghost use Rattle.walk.specs.Walk.{one_more};
 ghost use Rattle.walk_record.specs.Record.{numbers_in, position_at, depth_at, count_at};
 ghost use Rattle.walk_record.specs.CodeLaid.{read_handed};

@@ -1,6 +1,7 @@
 // A step of a record. Most hand out the next slot's key: they are made on the record where it is, by moves' fast path, and no walk is
 // built for them.
-ghost use Rattle.base.specs.Kit.{◌≡◌, true, length, get_or};
+ghost use Rattle.std.specs.Prelude.{◌≡◌};
+ghost use Rattle.base.specs.Kit.{true, length, get_or};
 ghost use Rattle.search.specs.Traversal.{leaf_there};
 ghost use Rattle.moves.specs.CodeFastPath.{fast_slot};
 ghost use Rattle.record_step.specs.Types.{At, FindNext};

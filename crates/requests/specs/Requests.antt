@@ -1,6 +1,7 @@
 -- What holds of what is read. The input itself is free, and no contract can say what it has: what is fixed is that every length is
 -- that of bytes which stand in the buffer or array they were read into.
-use Rattle.base.specs.Kit.{ℕ, ◌≤◌}
+use Rattle.std.specs.Prelude.{◌≤◌}
+use Rattle.base.specs.Kit.{ℕ}
 use Rattle.requests.specs.declared.Read.{Read}
 use Rattle.requests.specs.declared.Read.TheVariants.{Number, End}
 use Rattle.requests.specs.declared.Request.{Request}

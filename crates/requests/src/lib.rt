@@ -9,7 +9,8 @@
 // `put`, `item`, `line`, `put_hex` and `put_pair` print and hand nothing back. None has a `requires`.
 #![tactic(auto)]
 
-ghost use Rattle.base.specs.Kit.{◌≡◌, true, ◌≤◌, length};
+ghost use Rattle.std.specs.Prelude.{◌≡◌, ◌≤◌};
+ghost use Rattle.base.specs.Kit.{true, length};
 ghost use Rattle.requests.specs.Requests.{Within, Fits};
 
 use key::first;

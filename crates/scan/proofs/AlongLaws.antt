@@ -1,5 +1,6 @@
 -- The moves along a leaf: each is a move of the machine that hands out a key, so that what is left to do stays what it was.
-use Rattle.base.specs.Kit.{◌≡◌, refl, sym, ◌∙◌, ap, Bool, true, false, false≢true, List, ℕ, ◌+◌, ◌-◌, ◌≤◌, ◌<◌, arith, length}
+use Rattle.std.specs.Prelude.{◌≡◌, ◌+◌, ◌-◌, ◌≤◌, ◌<◌}
+use Rattle.base.specs.Kit.{refl, sym, ◌∙◌, ap, Bool, true, false, false≢true, List, ℕ, arith, length}
 use Rattle.base.specs.Pick.{pick}
 use Rattle.base.proofs.Choice.{pick-on, pick_off}
 use Rattle.scan.specs.Types.{Slot, CursorPlace, ScanCtx, At, Out, Nothing, NextKeyPast as PastBound, LayerContext, Slow, Bound, LeafEndFault as Gone, Spent}

@@ -1,7 +1,8 @@
 -- THE THEOREM `ended-at_end` (02 [12]: "A walk that hands out the key exactly at its end is ended there; the next call answers none with zero
 -- moves", "over any image"): over any bytes, and of any walk whose buffer and stack have their lengths. A walk whose count was the image's
 -- length has a count above it then, which 02 [13] declines with 21 before all else.
-use Rattle.base.specs.Kit.{◌≡◌, ap, sym, ◌∙◌, Bool, true, not, List, ℕ, ◌<◌, arith, length, take, not-false}
+use Rattle.std.specs.Prelude.{◌≡◌, ◌<◌}
+use Rattle.base.specs.Kit.{ap, sym, ◌∙◌, Bool, true, not, List, ℕ, arith, length, take, not-false}
 use Rattle.base.proofs.Choice.{pick_ind}
 use Rattle.walk.specs.Walk.{walk_ok, keys_of, len_of}
 use Rattle.walk.proofs.NumberLaws.{walk-fits, fits-walk}

@@ -1,6 +1,7 @@
 -- Where a step begins: a walk that passes the test of its numbers has them in range before its first move; and what a step comes to by
 -- that test and by the walk's state.
-use Rattle.base.specs.Kit.{◌≡◌, true, false, List, ℕ, length}
+use Rattle.std.specs.Prelude.{◌≡◌}
+use Rattle.base.specs.Kit.{true, false, List, ℕ, length}
 use Rattle.base.specs.Pick.{pick}
 use Rattle.scan.specs.Types.{ScanCtx, Walk, Nothing, StartMode, WalkState, WalkStateStart as Start, WalkStateRetry as Retry, WalkStateFindNext as FindNext, Ended}
 use Rattle.moves.specs.CodeMoves.{InRange}

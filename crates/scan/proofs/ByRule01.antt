@@ -1,6 +1,7 @@
 -- "Up to eight bytes nothing changes" (02 [1]), over every image and every walk record: a placing begins as 01 has it, and the Start
 -- move goes by 01's rule, which has its own definition (moves/specs/Start01.antt).
-use Rattle.base.specs.Kit.{◌≡◌, ap, ◌∙◌, sym, subst, List, ◌⊎◌, inr, ℕ, ◌+◌, ◌≤◌, arith, length, le-ltb, eq-eqb}
+use Rattle.std.specs.Prelude.{◌≡◌, ◌⊎◌, ◌+◌, ◌≤◌}
+use Rattle.base.specs.Kit.{ap, ◌∙◌, sym, subst, List, inr, ℕ, arith, length, le-ltb, eq-eqb}
 use Rattle.base.specs.Pick.{pick}
 use Rattle.cursor.specs.CursorKey.{from_slice}
 use Rattle.scan.specs.Types.{StartMode, From, Walk, WalkState, WalkStateStart as Start}

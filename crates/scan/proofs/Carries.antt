@@ -1,6 +1,7 @@
 -- THE THEOREMS of 02 [13] about one step, over any bytes and any walk: `step_carries`, what it carries; `past-count`, a walk whose count was the
 -- image's length when it handed out a key is declined with 21 next.
-use Rattle.base.specs.Kit.{◌≡◌, refl, sym, Bool, not, List, ℕ, ◌≤◌, arith, length, take}
+use Rattle.std.specs.Prelude.{◌≡◌, ◌≤◌}
+use Rattle.base.specs.Kit.{refl, sym, Bool, not, List, ℕ, arith, length, take}
 use Rattle.base.proofs.Choice.{pick_ind, by_test}
 use Rattle.walk.specs.Walk.{walk_ok, keys_of}
 use Rattle.walk.proofs.NumberLaws.{walk-fits}

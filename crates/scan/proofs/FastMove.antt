@@ -1,5 +1,6 @@
 -- A move right after a key, where its leaf stands and its next slot is fast: what `hand_out` answered says what the move comes to.
-use Rattle.base.specs.Kit.{◌≡◌, ◌∙◌, ap, Bool, true, false, List, ℕ}
+use Rattle.std.specs.Prelude.{◌≡◌}
+use Rattle.base.specs.Kit.{◌∙◌, ap, Bool, true, false, List, ℕ}
 use Rattle.base.specs.Pick.{pick}
 use Rattle.scan.specs.Types.{Slot, CursorPlace, ScanCtx, ScanState, Emit, Exhausted, OutcomeFault as Fault, At, NextKey, Out, NextKeyPast as Past, LayerContext}
 use Rattle.search.specs.Traversal.{leaf_there}

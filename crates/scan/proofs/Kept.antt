@@ -1,6 +1,7 @@
 -- What a run of moves keeps, over any bytes: the lengths of buffer and stack, and where a key is out the range of the numbers, with the key told
 -- as the last exactly at the included end.
-use Rattle.base.specs.Kit.{◌≡◌, refl, sym, subst, Bool, true, false, List, ℕ, zero, suc, ◌+◌, ◌<◌, arith, eqb, length, length-set, take, eqb-true, eqb-false}
+use Rattle.std.specs.Prelude.{◌≡◌, ◌+◌, ◌<◌}
+use Rattle.base.specs.Kit.{refl, sym, subst, Bool, true, false, List, ℕ, zero, suc, arith, eqb, length, length-set, take, eqb-true, eqb-false}
 use Rattle.cursor.specs.RangeBound.{at_end}
 use Rattle.moves.specs.CodeMoves.{InRange}
 use Rattle.moves.proofs.Laws.{Between, Before, After, not_up, popped_in_range, entered_in_range, move_in_range}

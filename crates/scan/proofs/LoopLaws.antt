@@ -1,6 +1,7 @@
 -- One turn of the loop: what it holds before it, what it has made of that when it comes to its pass, and what each outcome of
 -- the pass comes to. The moves that are left always come to what all of them come to.
-use Rattle.base.specs.Kit.{◌≡◌, refl, sym, ◌∙◌, ap, subst, Bool, true, false, false≢true, true≢false, and-eq-true_iff, List, ℕ, ◌+◌, ◌-◌, ◌^◌, ◌≤◌, ◌<◌, arith, sub-zero, not-true, eqb-true, length}
+use Rattle.std.specs.Prelude.{◌≡◌, ◌+◌, ◌-◌, ◌^◌, ◌≤◌, ◌<◌}
+use Rattle.base.specs.Kit.{refl, sym, ◌∙◌, ap, subst, Bool, true, false, false≢true, true≢false, and-eq-true_iff, List, ℕ, arith, sub-zero, not-true, eqb-true, length}
 use Rattle.base.proofs.Choice.{pick-on, pick_off}
 use Rattle.key.specs.Part.{part}
 use Rattle.search.specs.Traversal.{leaf_there}

@@ -1,5 +1,6 @@
 -- A move of the machine as the loop makes it: in Up the layer above is taken back, then one pass, then a layer that was found is entered.
-use Rattle.base.specs.Kit.{◌≡◌, refl, sym, ◌∙◌, ap, true, false, true≢false, false≢true, List, ℕ, eq-eqb, ne_eqb}
+use Rattle.std.specs.Prelude.{◌≡◌}
+use Rattle.base.specs.Kit.{refl, sym, ◌∙◌, ap, true, false, true≢false, false≢true, List, ℕ, eq-eqb, ne_eqb}
 use Rattle.base.specs.Pick.{pick}
 use Rattle.moves.specs.Moves.{pass_in}
 use Rattle.scan.specs.Types.{ScanState, ScanStateStart as Start, ScanStateRetry as Retry, ScanStateFindNext as FindNext, Down, Up, Exhausted}

@@ -1,5 +1,6 @@
 -- The loop's run, which counts as it goes: to the next key it is the machine's run, by induction on the moves that are left.
-use Rattle.base.specs.Kit.{◌≡◌, refl, ap, Bool, true, false, ◌&&◌, List, ℕ, zero, suc, ◌+◌, ◌-◌, ◌<◌, length}
+use Rattle.std.specs.Prelude.{◌≡◌, ◌&&◌, ◌+◌, ◌-◌, ◌<◌}
+use Rattle.base.specs.Kit.{refl, ap, Bool, true, false, List, ℕ, zero, suc, length}
 use Rattle.base.specs.Pick.{pick}
 use Rattle.base.proofs.Count.{left-more}
 use Rattle.scan.specs.Types.{Outcome, Continue, Push, Emit, Exhausted, OutcomeFault as Fault, Walk}

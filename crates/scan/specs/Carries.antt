@@ -1,5 +1,5 @@
 -- What a step and its walk carry of the keys that have been handed out (02 [13]), over any bytes and any walk record.
-use Rattle.base.specs.Kit.{◌≡◌, ◌+◌}
+use Rattle.std.specs.Prelude.{◌≡◌, ◌+◌}
 use Rattle.walk.specs.Walk.{nothing_yet, keys_of}
 use Rattle.scan.specs.Types.{HandedOut, Walk, Answer, Key, Nothing, Declined, Stepped}
 

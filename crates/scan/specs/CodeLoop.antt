@@ -1,6 +1,7 @@
 -- The loop as its functions have it: the run that counts as it goes, and the moves along a leaf. specs/Machine.antt says what a step
 -- comes to; proofs/RunLaws.antt has that this run is the machine's.
-use Rattle.base.specs.Kit.{Bool, true, false, not, ◌&&◌, List, ◌≡◌, ℕ, zero, suc, ◌+◌, ◌-◌, ◌≤◌, ◌<◌, eqb, length, take}
+use Rattle.std.specs.Prelude.{◌&&◌, ◌≡◌, ◌+◌, ◌-◌, ◌≤◌, ◌<◌}
+use Rattle.base.specs.Kit.{Bool, true, false, not, List, ℕ, zero, suc, eqb, length, take}
 use Rattle.base.specs.Pick.{pick}
 use Rattle.search.specs.Traversal.{leaf_there}
 use Rattle.moves.specs.CodeMoves.{InRange}

@@ -1,6 +1,7 @@
 -- The machine: a step of a walk, over any bytes and any walk record (01, "Step a walk" and "That
 -- loop, its Start and the numbers above are the machine").
-use Rattle.base.specs.Kit.{Bool, true, false, not, ◌&&◌, List, ℕ, zero, suc, ◌+◌, ◌-◌, eqb, length, take, get_or, set}
+use Rattle.std.specs.Prelude.{◌&&◌, ◌+◌, ◌-◌}
+use Rattle.base.specs.Kit.{Bool, true, false, not, List, ℕ, zero, suc, eqb, length, take, get_or, set}
 use Rattle.base.specs.Pick.{pick}
 use Rattle.scan.specs.Types.{StartMode, LayerContext, WalkState, WalkStateStart as Start, WalkStateRetry as Retry, WalkStateFindNext as FindNext, Ended, HandedOut, Walk, ScanState, ScanCtx, Outcome, Continue, Push, Emit, Exhausted, OutcomeFault as Fault, Answer, Key, Nothing, Declined, Stepped}
 use Rattle.walk.specs.Walk.{nothing_yet, one_more, empty_context, walk_ok}

@@ -1,5 +1,6 @@
 // The fast path's moves along one leaf, for a count: as long as it makes them, the loop does not.
-ghost use Rattle.base.specs.Kit.{◌≡◌, ◌≤◌, length};
+ghost use Rattle.std.specs.Prelude.{◌≡◌, ◌≤◌};
+ghost use Rattle.base.specs.Kit.{length};
 ghost use Rattle.moves.specs.CodeMoves.{InRange};
 ghost use Rattle.scan.specs.CodeLoop.{is_next, is_along, along_with, AfterKey, AlongFrom};
 

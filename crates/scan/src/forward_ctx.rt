@@ -1,6 +1,7 @@
 // The loop (the Rust's advance_no_alloc): it holds the layer stack, and makes moves until the next key is out, or past every key
 // until the walk ends, which is a count.
-ghost use Rattle.base.specs.Kit.{◌≡◌, true, false, ◌+◌, ◌^◌, ◌≤◌, ◌<◌, length};
+ghost use Rattle.std.specs.Prelude.{◌≡◌, ◌+◌, ◌^◌, ◌≤◌, ◌<◌};
+ghost use Rattle.base.specs.Kit.{true, false, length};
 ghost use Rattle.scan.specs.Types.{Key};
 ghost use Rattle.walk.specs.Walk.{empty_context, walk_ok};
 ghost use Rattle.scan.specs.Machine.{is_up, layer_of, after_key, declined_with, stepped, advance};

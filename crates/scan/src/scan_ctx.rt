@@ -1,5 +1,5 @@
 // A walk as the loop has it: what goes from move to move at the start of a call, and the walk after it.
-ghost use Rattle.base.specs.Kit.{◌≡◌};
+ghost use Rattle.std.specs.Prelude.{◌≡◌};
 ghost use Rattle.scan.specs.Machine.{scan_state, last_ikey, ctx_of, walk_of};
 
 use cursor::cursor_key::{CursorKey, CursorPlace};

@@ -1,5 +1,6 @@
 // Stepping a walk (01, "Step a walk"): `step` takes anything. And all its steps at once as a count, for the tally.
-ghost use Rattle.base.specs.Kit.{◌≡◌, true, length};
+ghost use Rattle.std.specs.Prelude.{◌≡◌};
+ghost use Rattle.base.specs.Kit.{true, length};
 ghost use Rattle.scan.specs.Types.{WalkStateFindNext as FindNext};
 ghost use Rattle.walk.specs.Walk.{walk_ok};
 ghost use Rattle.scan.specs.Machine.{advance, step};

@@ -1,5 +1,6 @@
 -- Choices by a number x that a call returned, and which the definition reads as a: for `search`, on the way to a return.
-use Rattle.base.specs.Kit.{◌≡◌, Bool, true, false, List, ℕ, ◌+◌, ◌≤◌, ◌<◌, arith, length}
+use Rattle.std.specs.Prelude.{◌≡◌, ◌+◌, ◌≤◌, ◌<◌}
+use Rattle.base.specs.Kit.{Bool, true, false, List, ℕ, arith, length}
 use Rattle.node.specs.Layout.{suffix_at}
 use Rattle.search.specs.Types.{Ordering, StoredOrder, Slot, Searched, CursorPlace}
 use Rattle.search.proofs.TraversalLaws.{in_image}

@@ -1,6 +1,7 @@
 -- What callers of the searches cite: a leaf that a descent comes to lies in the image, and a position that a search in a leaf
 -- comes to is one of the leaf's or the one past the last.
-use Rattle.base.specs.Kit.{◌≡◌, refl, true, false, false≢true, List, ℕ, zero, suc, ◌+◌, ◌-◌, ◌%◌, ◌≤◌, ◌<◌, arith, length}
+use Rattle.std.specs.Prelude.{◌≡◌, ◌+◌, ◌-◌, ◌%◌, ◌≤◌, ◌<◌}
+use Rattle.base.specs.Kit.{refl, true, false, false≢true, List, ℕ, zero, suc, arith, length}
 use Rattle.base.proofs.Choice.{pick_ind}
 use Rattle.search.specs.Types.{Ordering, OrderingLess as Less, OrderingEqual as Equal, OrderingGreater as Greater, Position, Slot, CursorPlace, RecordKind, RecordKindLeaf as Leaf, Internode, Unreadable, Reached, ReachedLeaf, ReachedFault, KeyIndexedPosition, NotFound, Found, KeyIndexedPositionFault as Fault, StoredOrder, StoredOrderLess as SuffixLess, StoredOrderEqual as SuffixEqual, StoredOrderGreater as SuffixGreater, NoSuffix, StoredOrderFault as SuffixFault, Searched, SearchedAt as At, SearchedFault}
 use Rattle.node.specs.Layout.{permutation_at}

@@ -1,6 +1,7 @@
 -- A search over a leaf's positions, one at a time: from position i on with n left it is `from i n`, which is `stop i` where
 -- none is left, `fault` at a slot of 15, and else what `turn` makes of the slot and of the rest.
-use Rattle.base.specs.Kit.{◌≡◌, sym, ◌∙◌, List, ℕ, zero, suc, ◌+◌, ◌-◌, ◌≤◌, ◌<◌, arith, le-leb, lt-leb, leb-false, leb}
+use Rattle.std.specs.Prelude.{◌≡◌, ◌+◌, ◌-◌, ◌≤◌, ◌<◌}
+use Rattle.base.specs.Kit.{sym, ◌∙◌, List, ℕ, zero, suc, arith, le-leb, lt-leb, leb-false, leb}
 use Rattle.base.specs.Pick.{pick}
 use Rattle.base.proofs.Choice.{pick_ind}
 use Rattle.base.proofs.Count.{left-more}

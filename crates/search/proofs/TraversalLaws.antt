@@ -1,5 +1,6 @@
 -- What the code's tests say of `readable`, of the kind of a record, and of the descent to a leaf.
-use Rattle.base.specs.Kit.{◌≡◌, refl, sym, ◌∙◌, Bool, true, false, not, ◌&&◌, and-eq-true_iff, List, ℕ, zero, suc, ◌+◌, ◌-◌, ◌%◌, ◌≤◌, ◌<◌, add-one, arith, leb-true, leb-false, eqb-true, le-leb, lt-leb, eq-eqb, ne_eqb, lt-ltb, le-ltb, not-true, not-false, leb, ltb, eqb, length}
+use Rattle.std.specs.Prelude.{◌≡◌, ◌&&◌, ◌+◌, ◌-◌, ◌%◌, ◌≤◌, ◌<◌}
+use Rattle.base.specs.Kit.{refl, sym, ◌∙◌, Bool, true, false, not, and-eq-true_iff, List, ℕ, zero, suc, add-one, arith, leb-true, leb-false, eqb-true, le-leb, lt-leb, eq-eqb, ne_eqb, lt-ltb, le-ltb, not-true, not-false, leb, ltb, eqb, length}
 use Rattle.base.specs.Pick.{pick}
 use Rattle.node.specs.Version.{is_leaf, at_rest}
 use Rattle.node.specs.Layout.{version_at, nkeys_at}

@@ -1,6 +1,7 @@
 -- Searches in a leaf, over any bytes (01, module 4; the Rust's helper.rs). The leaf is known to lie before the trailer.
 -- "22: .. a slot of 15" is met where the permutation's field is read; a suffix that is compared must lie before the trailer.
-use Rattle.base.specs.Kit.{Bool, true, not, List, ℕ, zero, suc, ◌+◌, ◌-◌, leb, eqb}
+use Rattle.std.specs.Prelude.{◌+◌, ◌-◌}
+use Rattle.base.specs.Kit.{Bool, true, not, List, ℕ, zero, suc, leb, eqb}
 use Rattle.base.specs.Pick.{pick}
 use Rattle.key.specs.Part.{part}
 use Rattle.key.specs.Order.{byte_order, order}

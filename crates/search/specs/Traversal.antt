@@ -1,7 +1,8 @@
 -- From a layer's root to a leaf, over any bytes (01, module 5; "22: a move reads a record or suffix that starts below 8 or is
 -- not wholly before the trailer, a record not at a multiple of 8, a forbidden version bit, an internode where the walk or a
 -- `next` names a leaf, a child not below its parent, a key count over 15").
-use Rattle.base.specs.Kit.{Bool, true, false, not, ◌&&◌, List, ℕ, zero, suc, ◌+◌, ◌%◌, leb, ltb, eqb, length}
+use Rattle.std.specs.Prelude.{◌&&◌, ◌+◌, ◌%◌}
+use Rattle.base.specs.Kit.{Bool, true, false, not, List, ℕ, zero, suc, leb, ltb, eqb, length}
 use Rattle.base.specs.Pick.{pick}
 use Rattle.node.specs.Version.{is_leaf, at_rest}
 use Rattle.node.specs.Layout.{version_at, nkeys_at, child_at}

@@ -1,5 +1,6 @@
 // Searches in a leaf (the Rust's helper.rs).
-ghost use Rattle.base.specs.Kit.{◌≡◌, true, ◌+◌, ◌≤◌, ◌<◌};
+ghost use Rattle.std.specs.Prelude.{◌≡◌, ◌+◌, ◌≤◌, ◌<◌};
+ghost use Rattle.base.specs.Kit.{true};
 ghost use Rattle.key.specs.Order.{order};
 ghost use Rattle.node.specs.Layout.{InLeaf, InSlot, permutation_at};
 ghost use Rattle.node.specs.Permuter.{size_of};

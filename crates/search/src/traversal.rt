@@ -1,6 +1,7 @@
 // From a layer's root to a leaf (the Rust's traversal.rs). The Rust follows pointers and waits for stable versions; here a
 // record is read at an offset of the lent image, and what cannot be read is an answer.
-ghost use Rattle.base.specs.Kit.{◌≡◌, true, ◌≤◌};
+ghost use Rattle.std.specs.Prelude.{◌≡◌, ◌≤◌};
+ghost use Rattle.base.specs.Kit.{true};
 ghost use Rattle.node.specs.Layout.{InInternode, nkeys_at};
 ghost use Rattle.search.specs.Traversal.{readable, record_at, leaf_there, child_for, reach};
 

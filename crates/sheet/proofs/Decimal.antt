@@ -1,6 +1,7 @@
 -- Decimals: their digits from the last to the first, how many there are, and what one store of a digit adds. The bound of
 -- twenty digits is enough for every number below 2^64, so that it drops out of the laws.
-use Rattle.base.specs.Kit.{◌≡◌, sym, ap, Bool, true, false, List, [], ◌∷◌, ◌++◌, ℕ, zero, suc, ◌+◌, ◌/◌, ◌%◌, ◌^◌, ◌≤◌, ◌<◌, arith, ltb, length, set, length-append, paste, lt-ltb, le-ltb}
+use Rattle.std.specs.Prelude.{◌≡◌, ◌∷◌, ◌++◌, ◌+◌, ◌/◌, ◌%◌, ◌^◌, ◌≤◌, ◌<◌}
+use Rattle.base.specs.Kit.{sym, ap, Bool, true, false, List, [], ℕ, zero, suc, arith, ltb, length, set, length-append, paste, lt-ltb, le-ltb}
 use Rattle.base.specs.Pick.{pick}
 use Rattle.sheet.specs.Sheet.{decimal_in, decimal}
 use Rattle.sheet.proofs.Paste.{paste-one, paste-last}

@@ -1,5 +1,6 @@
 -- Keys in hex: how many digits there are, and what one turn of the loop that writes them adds.
-use Rattle.base.specs.Kit.{◌≡◌, refl, ◌∙◌, List, [], ◌∷◌, ℕ, suc, ◌+◌, ◌*◌, ◌/◌, ◌%◌, ◌≤◌, ◌<◌, add-one, arith, length, get_or, drop, set, length-set, length-drop, drop_of_length-le, drop-cons, paste, paste-zero}
+use Rattle.std.specs.Prelude.{◌≡◌, ◌∷◌, ◌+◌, ◌*◌, ◌/◌, ◌%◌, ◌≤◌, ◌<◌}
+use Rattle.base.specs.Kit.{refl, ◌∙◌, List, [], ℕ, suc, add-one, arith, length, get_or, drop, set, length-set, length-drop, drop_of_length-le, drop-cons, paste, paste-zero}
 use Rattle.sheet.specs.Sheet.{hex_digit, hex_bytes, hex_key}
 use Rattle.sheet.proofs.Paste.{paste-first}
 

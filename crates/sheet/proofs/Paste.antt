@@ -1,5 +1,6 @@
 -- Pieces written into a buffer one after the other, each whole; and a line of two pieces.
-use Rattle.base.specs.Kit.{◌≡◌, refl, sym, ap, ◌∙◌, List, [], ◌∷◌, ◌++◌, append_assoc, ℕ, suc, ◌+◌, ◌≤◌, ◌<◌, le_refl, add-one, arith, length, take, drop, set, length-append, append_snoc, take-length, take-set-le, drop_at, drop-drop, set_split, length-take-le, paste, take-paste, drop-paste, length-paste, le-leb, lt-leb}
+use Rattle.std.specs.Prelude.{◌≡◌, ◌∷◌, ◌++◌, ◌+◌, ◌≤◌, ◌<◌}
+use Rattle.base.specs.Kit.{refl, sym, ap, ◌∙◌, List, [], append_assoc, ℕ, suc, le_refl, add-one, arith, length, take, drop, set, length-append, append_snoc, take-length, take-set-le, drop_at, drop-drop, set_split, length-take-le, paste, take-paste, drop-paste, length-paste, le-leb, lt-leb}
 use Rattle.base.specs.Pick.{pick}
 use Rattle.sheet.specs.Sheet.{decimal}
 use Rattle.sheet.specs.Written.{written_len, written_out}

@@ -1,7 +1,8 @@
 -- Sheet edition 1 (01, "Surveyed examples": "The first line has the edition and the trailer's key count; then lower-case hex key
 -- (- for empty) and decimal value; last the walk's moves. Decimals have no leading zeros and stay below 2^64; each line ends in
 -- one newline byte, and nothing follows the last").
-use Rattle.base.specs.Kit.{List, [], ◌∷◌, ◌++◌, ℕ, zero, suc, ◌+◌, ◌/◌, ◌%◌, ltb}
+use Rattle.std.specs.Prelude.{◌∷◌, ◌++◌, ◌+◌, ◌/◌, ◌%◌}
+use Rattle.base.specs.Kit.{List, [], ℕ, zero, suc, ltb}
 use Rattle.base.specs.Pick.{pick}
 use Rattle.layering.specs.Keys.{Pair}
 

@@ -4,7 +4,8 @@
 // the line nothing is written, and the length is 0. What stands past the written length stays as it was.
 #![tactic(auto)]
 
-ghost use Rattle.base.specs.Kit.{[], ◌∷◌, ◌++◌, ◌≡◌, ◌+◌, ◌*◌, ◌≤◌, ◌<◌, length, paste};
+ghost use Rattle.std.specs.Prelude.{◌∷◌, ◌++◌, ◌≡◌, ◌+◌, ◌*◌, ◌≤◌, ◌<◌};
+ghost use Rattle.base.specs.Kit.{[], length, paste};
 ghost use Rattle.sheet.specs.Sheet.{decimal, hex_digit, hex_bytes, hex_key, first_line, pair_line, last_line, refused};
 ghost use Rattle.sheet.specs.Written.{written_len, written_out};
 

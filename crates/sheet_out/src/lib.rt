@@ -4,7 +4,8 @@
 // output fails they end. Both take the handle that prints; `run` reads and writes on standard error by it too.
 #![tactic(auto)]
 
-ghost use Rattle.base.specs.Kit.{◌≤◌, length};
+ghost use Rattle.std.specs.Prelude.{◌≤◌};
+ghost use Rattle.base.specs.Kit.{length};
 
 use key::first;
 use std::io;

@@ -1,5 +1,6 @@
 -- WHAT THE PARTS OF A GROUP LAY: short keys nothing but their slots, two or more long keys a layer and its slot. Assumes nothing.
-use Rattle.base.specs.Kit.{◌≡◌, refl, sym, ap, ◌∙◌, false, List, [], ◌∷◌, ◌++◌, append_assoc, append-nil, map, ℕ, ◌≤◌, arith, length, eqb, ne_eqb, paste-zero, add-zero}
+use Rattle.std.specs.Prelude.{◌≡◌, ◌∷◌, ◌++◌, ◌≤◌}
+use Rattle.base.specs.Kit.{refl, sym, ap, ◌∙◌, false, List, [], append_assoc, append-nil, map, ℕ, arith, length, eqb, ne_eqb, paste-zero, add-zero}
 use Rattle.base.specs.Pick.{pick}
 use Rattle.key.specs.Ikey.{ikey_of}
 use Rattle.layering.specs.Tree.{Fields, Node}

@@ -1,5 +1,6 @@
 -- THE SLOTS OF SHORT KEYS, line by line: those of the lines left, behind those added, are all. Assumes nothing.
-use Rattle.base.specs.Kit.{◌≡◌, refl, sym, ap, subst, ◌∙◌, true, List, [], ◌∷◌, ◌++◌, append_assoc, append-nil, map, ℕ, suc, ◌+◌, ◌-◌, ◌≤◌, ◌<◌, arith, length, length-append}
+use Rattle.std.specs.Prelude.{◌≡◌, ◌∷◌, ◌++◌, ◌+◌, ◌-◌, ◌≤◌, ◌<◌}
+use Rattle.base.specs.Kit.{refl, sym, ap, subst, ◌∙◌, true, List, [], append_assoc, append-nil, map, ℕ, suc, arith, length, length-append}
 use Rattle.layering.specs.Tree.{Fields}
 use Rattle.layering.specs.Keys.{Pair}
 use Rattle.layering.specs.Ascending.{All}

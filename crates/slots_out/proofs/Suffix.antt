@@ -1,6 +1,7 @@
 -- THE SUFFIX OF A LONG KEY: one station line whose key goes on below the layer, read into a buffer; its suffix written and its slot added
 -- is its group's part laid. Assumes nothing.
-use Rattle.base.specs.Kit.{◌≡◌, refl, sym, ap, subst, ◌∙◌, true, List, [], ◌∷◌, ◌++◌, ℕ, ◌+◌, ◌*◌, ◌-◌, ◌/◌, ◌≤◌, ◌<◌, arith, length, length-drop, drop, drop-drop}
+use Rattle.std.specs.Prelude.{◌≡◌, ◌∷◌, ◌++◌, ◌+◌, ◌*◌, ◌-◌, ◌/◌, ◌≤◌, ◌<◌}
+use Rattle.base.specs.Kit.{refl, sym, ap, subst, ◌∙◌, true, List, [], ℕ, arith, length, length-drop, drop, drop-drop}
 use Rattle.base.specs.Pick.{pick}
 use Rattle.key.specs.Ikey.{ikey_of}
 use Rattle.key.specs.Part.{part}

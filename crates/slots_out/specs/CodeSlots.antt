@@ -1,5 +1,6 @@
 -- A GROUP'S SLOTS, as code adds them to those of a leaf (building/specs/CodeLaid.antt): its short keys, and a suffix.
-use Rattle.base.specs.Kit.{List, ◌≡◌, ℕ, ◌*◌, ◌-◌, ◌≤◌, ◌<◌, length}
+use Rattle.std.specs.Prelude.{◌≡◌, ◌*◌, ◌-◌, ◌≤◌, ◌<◌}
+use Rattle.base.specs.Kit.{List, ℕ, length}
 use Rattle.layering.specs.Keys.{Pair}
 use Rattle.layering.specs.Ascending.{All}
 use Rattle.building.specs.CodeLaid.{Laid}

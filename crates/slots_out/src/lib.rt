@@ -3,7 +3,8 @@
 // Interface: `add_shorts` and `add_suffix`.
 #![tactic(auto)]
 
-ghost use Rattle.base.specs.Kit.{List, ◌++◌, map, ◌≡◌, ◌-◌, ◌≤◌, length};
+ghost use Rattle.std.specs.Prelude.{◌++◌, ◌≡◌, ◌-◌, ◌≤◌};
+ghost use Rattle.base.specs.Kit.{List, map, length};
 ghost use Rattle.layering.specs.Tree.{Fields, Node};
 ghost use Rattle.layering.specs.Keys.{Pair};
 ghost use Rattle.layering.specs.Accepted.{end_s};

@@ -1,5 +1,6 @@
 -- Choices by what calls returned: for `start`, on the way to a return.
-use Rattle.base.specs.Kit.{◌≡◌, List, ℕ, ◌+◌, ◌≤◌, ◌<◌, arith, le-ltb, lt-ltb, ltb}
+use Rattle.std.specs.Prelude.{◌≡◌, ◌+◌, ◌≤◌, ◌<◌}
+use Rattle.base.specs.Kit.{List, ℕ, arith, le-ltb, lt-ltb, ltb}
 use Rattle.base.specs.Pick.{pick}
 use Rattle.key.specs.Order.{order, byte_order}
 use Rattle.key.proofs.Order.{order_less, order_equal, order_greater}

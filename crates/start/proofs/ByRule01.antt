@@ -1,6 +1,7 @@
 -- "Up to eight bytes nothing changes": with at most eight bytes left, 02's search comes to where 01's rule says, over any bytes; in
 -- mode above, where the whole cursor has no more than eight either.
-use Rattle.base.specs.Kit.{◌≡◌, refl, List, ◌⊎◌, inl, inr, true, false, ℕ, zero, suc, ◌+◌, ◌≤◌, arith, ltb, eqb, lt-ltb, le-ltb, eq-eqb, ne_eqb}
+use Rattle.std.specs.Prelude.{◌≡◌, ◌⊎◌, ◌+◌, ◌≤◌}
+use Rattle.base.specs.Kit.{refl, List, inl, inr, true, false, ℕ, zero, suc, arith, ltb, eqb, lt-ltb, le-ltb, eq-eqb, ne_eqb}
 use Rattle.base.specs.Pick.{pick}
 use Rattle.base.proofs.Choice.{pick_ind, pick-map}
 use Rattle.key.specs.Order.{then}

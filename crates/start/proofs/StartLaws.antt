@@ -1,6 +1,7 @@
 -- Start's search in a leaf as a loop over positions; and where it comes to: a position of the leaf's or the one past the last, or a
 -- slot that is one of the fifteen, where more than eight bytes are left.
-use Rattle.base.specs.Kit.{◌≡◌, refl, List, ℕ, ◌≤◌, ◌<◌, arith, ltb-true}
+use Rattle.std.specs.Prelude.{◌≡◌, ◌≤◌, ◌<◌}
+use Rattle.base.specs.Kit.{refl, List, ℕ, arith, ltb-true}
 use Rattle.base.proofs.Choice.{pick_ind}
 use Rattle.node.specs.Layout.{permutation_at}
 use Rattle.node.specs.Permuter.{size_of}

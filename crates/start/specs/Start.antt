@@ -1,6 +1,7 @@
 -- Where Start comes to in a leaf, over any bytes. 01 has a rule for cursors of at most eight bytes, 02 [1] for cursors of up to 256;
 -- proofs/ByRule01.antt joins the two. In the Rust this is `find_initial`, whose match on the ikey alone does not come along.
-use Rattle.base.specs.Kit.{Bool, true, false, not, List, ℕ, zero, suc, ◌+◌, leb, ltb, eqb}
+use Rattle.std.specs.Prelude.{◌+◌}
+use Rattle.base.specs.Kit.{Bool, true, false, not, List, ℕ, zero, suc, leb, ltb, eqb}
 use Rattle.base.specs.Pick.{pick}
 use Rattle.key.specs.Order.{byte_order, order, then}
 use Rattle.node.specs.Permuter.{size_of}

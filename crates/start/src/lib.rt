@@ -2,7 +2,7 @@
 // Rust's `find_initial`, without its match on the ikey alone.)
 #![tactic(auto)]
 
-ghost use Rattle.base.specs.Kit.{◌≡◌, ◌+◌, ◌≤◌};
+ghost use Rattle.std.specs.Prelude.{◌≡◌, ◌+◌, ◌≤◌};
 ghost use Rattle.node.specs.Layout.{InLeaf, InSlot};
 ghost use Rattle.start.specs.Start.{at_equal, short_verdict, suffix_verdict, long_verdict, verdict, start_position};
 

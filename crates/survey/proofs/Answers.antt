@@ -1,5 +1,6 @@
 -- The tally's answers, one law for each way out of its code.
-use Rattle.base.specs.Kit.{◌≡◌, refl, ap, sym, ◌∙◌, List, not, ℕ, ◌<◌, eqb, length, get_or, eqb-true, not-false, eq-eqb, ne_eqb}
+use Rattle.std.specs.Prelude.{◌≡◌, ◌<◌}
+use Rattle.base.specs.Kit.{refl, ap, sym, ◌∙◌, List, not, ℕ, eqb, length, get_or, eqb-true, not-false, eq-eqb, ne_eqb}
 use Rattle.layering.specs.Sieve.{row_of}
 use Rattle.base.specs.Pick.{pick}
 use Rattle.base.proofs.Choice.{pick_ind}

@@ -1,7 +1,8 @@
 -- 02 [6]: THE TALLY'S ANSWERS ARE WHAT THEY WERE, numbers included, for all inputs: those of the tally that went through a short form which
 -- meant above. The idea of the proof: by demand 3 the steps of that form's walk say the row above the cursor, and then none; and the
 -- row has no more keys than there are steps.
-use Rattle.base.specs.Kit.{◌≡◌, refl, ap, ◌∙◌, Bool, true, not, List, [], ◌∷◌, ℕ, zero, suc, ◌≤◌, ◌<◌, arith, eqb, length, replicate, get_or, eqb-true, not-false}
+use Rattle.std.specs.Prelude.{◌≡◌, ◌∷◌, ◌≤◌, ◌<◌}
+use Rattle.base.specs.Kit.{refl, ap, ◌∙◌, Bool, true, not, List, [], ℕ, zero, suc, arith, eqb, length, replicate, get_or, eqb-true, not-false}
 use Rattle.base.specs.Pick.{pick}
 use Rattle.base.proofs.Choice.{by_test}
 use Rattle.layering.specs.Keys.{Pair}

@@ -1,7 +1,8 @@
 -- The tally's count. Proved: over an accepted image, from a placing that is taken, the loop of moves counts as many keys
 -- as demand 3's row has. The idea: the loop follows the walk over rows, whose potential pays for every move
 -- (demands/proofs/Tally.antt), and an accepted image has more bytes than that.
-use Rattle.base.specs.Kit.{◌≡◌, List, ℕ, ◌<◌, length, get_or}
+use Rattle.std.specs.Prelude.{◌≡◌, ◌<◌}
+use Rattle.base.specs.Kit.{List, ℕ, length, get_or}
 use Rattle.layering.specs.Sieve.{row_of}
 use Rattle.verify.specs.Check.{check_number, check}
 use Rattle.verify.proofs.Theorem.{accepted_obeys}

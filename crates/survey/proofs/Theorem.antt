@@ -1,6 +1,7 @@
 -- THE THEOREM about the tally's number and its count: the check's number, else the placing's; and the length of demand 3's row where both are
 -- 0, zero elsewhere. `tally` (src/lib.rt) equals the definition, by its contract.
-use Rattle.base.specs.Kit.{◌≡◌, refl, not, List, ℕ, zero, suc, arith, eqb, length, ne_eqb}
+use Rattle.std.specs.Prelude.{◌≡◌}
+use Rattle.base.specs.Kit.{refl, not, List, ℕ, zero, suc, arith, eqb, length, ne_eqb}
 use Rattle.base.specs.Pick.{pick}
 use Rattle.layering.specs.Sieve.{row_of}
 use Rattle.verify.specs.Check.{check, check_number}

@@ -1,6 +1,7 @@
 -- THE TALLY AS IT WAS, for one theorem alone (02 [6]: "The tally relied on the old meaning: it shall name mode above and give the same
 -- answers as before, proved so"). Its walk is the one that 01's short form placed.
-use Rattle.base.specs.Kit.{not, List, [], ◌∷◌, ℕ, ◌+◌, eqb, length}
+use Rattle.std.specs.Prelude.{◌∷◌, ◌+◌}
+use Rattle.base.specs.Kit.{not, List, [], ℕ, eqb, length}
 use Rattle.base.specs.Pick.{pick}
 use Rattle.verify.specs.Check.{check, check_number}
 use Rattle.walk.specs.Placing.{place}

@@ -3,7 +3,7 @@
 // Interface: `tally`, which takes anything and has no `requires`, and its answer `Tallied`.
 #![tactic(auto)]
 
-ghost use Rattle.base.specs.Kit.{◌≡◌};
+ghost use Rattle.std.specs.Prelude.{◌≡◌};
 ghost use Rattle.survey.specs.Tally.{tally};
 
 use cursor::range_bound::StartMode;

@@ -6,7 +6,8 @@
 -- `open` and `next_line` (listed/src/lib.rt), `read_sheet` and `station_at` (reading/src/lib.rt), `build` (builder/src/lib.rt), whose definitions are
 -- `opened` of `read_sheet`, `StationRead`, and `built` with `built_out`, the six of punchbronze/src/lib.rt, and the bound test, `test` (cursor/src/range_bound.rt), whose
 -- definition is `tested`. None of them has a `requires`.
-use Rattle.base.specs.Kit.{◌≡◌, true, not, map, List, [], ℕ, ◌≤◌, ◌<◌, eqb, length, get_or}
+use Rattle.std.specs.Prelude.{◌≡◌, ◌≤◌, ◌<◌}
+use Rattle.base.specs.Kit.{true, not, map, List, [], ℕ, eqb, length, get_or}
 use Rattle.base.specs.Pick.{pick}
 use Rattle.key.specs.Order.{byte_order}
 use Rattle.cursor.specs.RangeBound.{side_of, is_within, contains, at_end}

@@ -1,6 +1,7 @@
 -- What the inner answers tell, and that the check's numbers stay small: a subtree keeps `Bounded` for every number of slots
 -- ahead, a slot adds one to it, and the end of a leaf takes all its slots back. By recursion as the check's own.
-use Rattle.base.specs.Kit.{Bool, true, List, ◌≡◌, refl, ℕ, zero, suc, ◌+◌, ◌*◌, ◌-◌, ◌<◌, ◌≤◌, suc-mul, sub-one, arith, eqb, length, not-false, leb-true, eqb-true, eqb-false}
+use Rattle.std.specs.Prelude.{◌≡◌, ◌+◌, ◌*◌, ◌-◌, ◌<◌, ◌≤◌}
+use Rattle.base.specs.Kit.{Bool, true, List, refl, ℕ, zero, suc, suc-mul, sub-one, arith, eqb, length, not-false, leb-true, eqb-true, eqb-false}
 use Rattle.base.proofs.Choice.{pick_ind, one_at_most}
 use Rattle.node.specs.Version.{at_rest}
 use Rattle.node.specs.Permuter.{size_of, slot_at}

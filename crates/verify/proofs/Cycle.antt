@@ -1,6 +1,7 @@
 -- What the two functions of the cycle and `check_image` cite: what a turn of each loop comes to, and what it leaves of
 -- `Bounded`. `below` is the number of layers that may lie below the one that is checked, `hi` the end of its ikeys.
-use Rattle.base.specs.Kit.{List, ⊎_elim, ◌≡◌, sym, subst, ap, ◌∙◌, ℕ, zero, suc, ◌+◌, ◌*◌, ◌-◌, ◌^◌, ◌<◌, ◌≤◌, eq-or-lt_of_le, arith, length, eq-eqb, ne_eqb}
+use Rattle.std.specs.Prelude.{◌≡◌, ◌+◌, ◌*◌, ◌-◌, ◌^◌, ◌<◌, ◌≤◌}
+use Rattle.base.specs.Kit.{List, ⊎_elim, sym, subst, ap, ◌∙◌, ℕ, zero, suc, eq-or-lt_of_le, arith, length, eq-eqb, ne_eqb}
 use Rattle.node.specs.Permuter.{size_of}
 use Rattle.base.specs.Pick.{pick}
 use Rattle.base.proofs.Choice.{pick_ind}

@@ -1,5 +1,6 @@
 -- What the check's tests of a slot say: its numbers 6, 7 and 8.
-use Rattle.base.specs.Kit.{true, ◌&&◌, ◌||◌, ◌⊎◌, inl, inr, ⊎_elim, ◌≡◌, refl, ap, ℕ, zero, suc, ◌+◌, ◌*◌, ◌%◌, ◌-◌, ◌^◌, ◌≤◌, ◌<◌, ◌/◌, arith, leb, ltb, eqb, leb-true, le-leb, lt-leb, eq-eqb, ne_eqb, pow-succ', one-le-pow, mod-one, sub-zero, suc-sub-suc, mod-mul, get_or}
+use Rattle.std.specs.Prelude.{◌&&◌, ◌||◌, ◌⊎◌, ◌≡◌, ◌+◌, ◌*◌, ◌%◌, ◌-◌, ◌^◌, ◌≤◌, ◌<◌, ◌/◌}
+use Rattle.base.specs.Kit.{true, inl, inr, ⊎_elim, refl, ap, ℕ, zero, suc, arith, leb, ltb, eqb, leb-true, le-leb, lt-leb, eq-eqb, ne_eqb, pow-succ', one-le-pow, mod-one, sub-zero, suc-sub-suc, mod-mul, get_or}
 use Rattle.base.specs.Pick.{pick}
 use Rattle.base.proofs.Choice.{by_test}
 use Rattle.key.specs.Ikey.{ikey_bytes, digits}

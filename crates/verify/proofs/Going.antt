@@ -1,6 +1,7 @@
 -- What the check's combinators come to, in both directions at once. `Says t P`: the test t is true exactly where P holds.
 -- `Runs x S q`: x ends without a fault only where S holds, and where S holds it comes to q.
-use Rattle.base.specs.Kit.{Bool, true, not, ◌&&◌, ◌||◌, false≢true, and-eq-true_iff, or-true, ◌⊎◌, inl, inr, ⊎_elim, ◌≡◌, refl, sym, ◌∙◌, ℕ, suc, ◌≤◌, ◌<◌, arith, leb, ltb, eqb, ltb-true, leb-true, eqb-true, eqb-false, lt-ltb, le-leb, eq-eqb, not-true}
+use Rattle.std.specs.Prelude.{◌&&◌, ◌||◌, ◌⊎◌, ◌≡◌, ◌≤◌, ◌<◌}
+use Rattle.base.specs.Kit.{Bool, true, not, false≢true, and-eq-true_iff, or-true, inl, inr, ⊎_elim, refl, sym, ◌∙◌, ℕ, suc, arith, leb, ltb, eqb, ltb-true, leb-true, eqb-true, eqb-false, lt-ltb, le-leb, eq-eqb, not-true}
 use Rattle.base.specs.Pick.{pick}
 use Rattle.base.proofs.Choice.{by_test}
 use Rattle.verify.specs.Types.{Progress}

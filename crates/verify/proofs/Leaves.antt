@@ -1,5 +1,6 @@
 -- The check of a leaf ends without a fault exactly where the rules hold of it: its own tests around the check of its slots.
-use Rattle.base.specs.Kit.{true, not, List, ◌≡◌, refl, ℕ, ◌+◌, ◌≤◌, arith, eqb, length}
+use Rattle.std.specs.Prelude.{◌≡◌, ◌+◌, ◌≤◌}
+use Rattle.base.specs.Kit.{true, not, List, refl, ℕ, arith, eqb, length}
 use Rattle.base.specs.Pick.{pick}
 use Rattle.node.specs.Version.{at_rest}
 use Rattle.node.specs.Permuter.{size_of}

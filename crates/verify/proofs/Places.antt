@@ -1,6 +1,7 @@
 -- Facts about places and links that hold of every tree, in order or not: places stay multiples of 8, a suffix at the place
 -- reached ends before its leaf, and what a linked subtree's last leaf names. By recursion on the tree.
-use Rattle.base.specs.Kit.{◌≡◌, refl, ℕ, ◌+◌, ◌%◌, ◌≤◌, arith, eqb, eqb-false}
+use Rattle.std.specs.Prelude.{◌≡◌, ◌+◌, ◌%◌, ◌≤◌}
+use Rattle.base.specs.Kit.{refl, ℕ, arith, eqb, eqb-false}
 use Rattle.base.proofs.Choice.{pick_ind}
 use Rattle.layering.specs.Tree.{Fields, Node, leaf, internode, beyond, Kids, last, more, Slots, none, value, layer}
 use Rattle.layering.proofs.Size.{leaves_fit_s}

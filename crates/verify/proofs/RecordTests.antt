@@ -1,6 +1,7 @@
 -- Laws of a record's tests, which the proofs of its functions cite: by the version that the code has read; where a record may lie at the
 -- latest; the ends of an internode's children; and the tests that go by a loop, one turn at a time.
-use Rattle.base.specs.Kit.{◌≡◌, refl, sym, ◌∙◌, ap, Bool, true, false, not, ◌&&◌, and-true, and-false, and_assoc, Bool·not-not, List, ℕ, zero, suc, ◌+◌, ◌-◌, ◌<◌, ◌≤◌, leb, eqb, sub-one, add-one, arith, length, get_or, set, replicate, length-set, length-replicate, get_or-replicate, lt-ltb, le-ltb, eqb-true, eqb-false, add-zero, zero-add, get_or-set_same, get_or-set_other}
+use Rattle.std.specs.Prelude.{◌≡◌, ◌&&◌, ◌+◌, ◌-◌, ◌<◌, ◌≤◌}
+use Rattle.base.specs.Kit.{refl, sym, ◌∙◌, ap, Bool, true, false, not, and-true, and-false, and_assoc, Bool·not-not, List, ℕ, zero, suc, leb, eqb, sub-one, add-one, arith, length, get_or, set, replicate, length-set, length-replicate, get_or-replicate, lt-ltb, le-ltb, eqb-true, eqb-false, add-zero, zero-add, get_or-set_same, get_or-set_other}
 use Rattle.base.specs.Pick.{pick}
 use Rattle.node.specs.Version.{at_rest}
 use Rattle.node.specs.Layout.{version_at, permutation_at, nkeys_at, separator_at}

@@ -1,5 +1,6 @@
 -- What the check's tests of a record say: number 3 on reaching it, a leaf's permutation, an internode's separators.
-use Rattle.base.specs.Kit.{true, true≢false, List, inl, inr, ⊎_elim, ◌≡◌, refl, sym, ◌∙◌, subst, ℕ, zero, suc, ◌+◌, ◌%◌, ◌≤◌, ◌<◌, eq-or-lt_of_le, arith, length}
+use Rattle.std.specs.Prelude.{◌≡◌, ◌+◌, ◌%◌, ◌≤◌, ◌<◌}
+use Rattle.base.specs.Kit.{true, true≢false, List, inl, inr, ⊎_elim, refl, sym, ◌∙◌, subst, ℕ, zero, suc, eq-or-lt_of_le, arith, length}
 use Rattle.base.proofs.Choice.{by_test}
 use Rattle.node.specs.Permuter.{slot_at}
 use Rattle.node.specs.Layout.{separator_at}

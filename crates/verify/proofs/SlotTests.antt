@@ -1,6 +1,7 @@
 -- Laws of a slot's tests, for the numbers that the code has read: zero bytes by two shifts, a suffix's length, the slot
 -- before.
-use Rattle.base.specs.Kit.{◌≡◌, refl, ◌∙◌, Bool, false, not, ◌&&◌, List, ℕ, zero, suc, ◌+◌, ◌*◌, ◌/◌, ◌%◌, ◌-◌, ◌^◌, ◌<◌, ◌≤◌, pow-suc, mod-eq_of_lt, div-add-mod', sub-one, arith, leb, ltb, eqb, pow-add, lt-ltb, le-leb, lt-leb, eq-eqb, ne_eqb}
+use Rattle.std.specs.Prelude.{◌≡◌, ◌&&◌, ◌+◌, ◌*◌, ◌/◌, ◌%◌, ◌-◌, ◌^◌, ◌<◌, ◌≤◌}
+use Rattle.base.specs.Kit.{refl, ◌∙◌, Bool, false, not, List, ℕ, zero, suc, pow-suc, mod-eq_of_lt, div-add-mod', sub-one, arith, leb, ltb, eqb, pow-add, lt-ltb, le-leb, lt-leb, eq-eqb, ne_eqb}
 use Rattle.node.specs.Permuter.{slot_at}
 use Rattle.base.specs.Pick.{pick}
 use Rattle.node.specs.Layout.{InSlot, permutation_at, ikey_at, keylenx_at, suffix_at}

@@ -1,6 +1,7 @@
 -- The check of a leaf's slots ends without a fault exactly where the rules hold of them: by recursion on the slots left. The
 -- check of a layer below comes in as a function, with what is known of it.
-use Rattle.base.specs.Kit.{Bool, true, false, not, ◌&&◌, false≢true, List, ◌≡◌, refl, subst, ℕ, zero, suc, ◌+◌, ◌^◌, ◌≤◌, ◌<◌, add-one, arith, leb, eqb, length, leb-true, leb-false, le-leb, lt-leb, eqb-true, eqb-false}
+use Rattle.std.specs.Prelude.{◌&&◌, ◌≡◌, ◌+◌, ◌^◌, ◌≤◌, ◌<◌}
+use Rattle.base.specs.Kit.{Bool, true, false, not, false≢true, List, refl, subst, ℕ, zero, suc, add-one, arith, leb, eqb, length, leb-true, leb-false, le-leb, lt-leb, eqb-true, eqb-false}
 use Rattle.base.specs.Pick.{pick}
 use Rattle.base.proofs.Choice.{pick_ind, by_test}
 use Rattle.layering.specs.Tree.{Fields, fields_at, Node, Slots, none, value, layer, slots_from}

@@ -1,6 +1,7 @@
 -- All the rules for a subtree in one record, between the ends and from the place where the check reaches it, and what the
 -- check has come to behind it. The rule on links is said of what the subtree's last leaf names (`last_n`).
-use Rattle.base.specs.Kit.{true, List, ◌≡◌, ℕ, ◌+◌, ◌%◌, ◌≤◌, arith, length}
+use Rattle.std.specs.Prelude.{◌≡◌, ◌+◌, ◌%◌, ◌≤◌}
+use Rattle.base.specs.Kit.{true, List, ℕ, arith, length}
 use Rattle.layering.specs.Tree.{Fields, LeafHead, Node, leaf, Kids, more, Slots, none, value, layer}
 use Rattle.layering.specs.Keys.{leaves_n, leaves_k, leaves_s, values_n, values_k, values_s, layers_n, layers_k, layers_s, lives_n, lives_k, lives_s}
 use Rattle.layering.specs.Accepted.{room, end_n, end_k, end_s, InPostOrderN, InPostOrderK, InPostOrderS, ShortPathsN, ShortPathsK, ShortPathsS, AscendN, AscendK, AscendS, InRangeN, InRangeK, InRangeS, first_n, first_k, LinkedN, LinkedK, LinkedS, FieldsN, FieldsK, FieldsS}

@@ -1,6 +1,7 @@
 -- The check, said by what its inner functions answer: a subtree by its record, a slot by its kind, a layer by its subtree;
 -- and a loop over parts, one turn at a time.
-use Rattle.base.specs.Kit.{◌≡◌, refl, true, false, ◌&&◌, List, ℕ, zero, suc, ◌+◌, ◌-◌, ◌^◌, ◌<◌, ◌≤◌, sub-one, arith, leb, eqb, eq-eqb, ne_eqb}
+use Rattle.std.specs.Prelude.{◌≡◌, ◌&&◌, ◌+◌, ◌-◌, ◌^◌, ◌<◌, ◌≤◌}
+use Rattle.base.specs.Kit.{refl, true, false, List, ℕ, zero, suc, sub-one, arith, leb, eqb, eq-eqb, ne_eqb}
 use Rattle.base.specs.Pick.{pick}
 use Rattle.base.proofs.Choice.{pick-map, pick_inner}
 use Rattle.base.proofs.Count.{left-more}

@@ -1,7 +1,8 @@
 -- The check of a subtree, and of a layer, ends without a fault exactly where the rules hold of it: first of an internode, by recursion
 -- on the children left, where the check of a child comes in as a function, with what is known of it; then by recursion on the
 -- internodes left on a path, and on the layers left on a way down.
-use Rattle.base.specs.Kit.{true, not, ◌&&◌, Bool, false, List, ◌≡◌, refl, sym, subst, ℕ, zero, suc, ◌+◌, ◌≤◌, ◌<◌, ◌-◌, ◌^◌, add-one, arith, leb, eqb, length, lt-ltb, le-ltb}
+use Rattle.std.specs.Prelude.{◌&&◌, ◌≡◌, ◌+◌, ◌≤◌, ◌<◌, ◌-◌, ◌^◌}
+use Rattle.base.specs.Kit.{true, not, Bool, false, List, refl, sym, subst, ℕ, zero, suc, add-one, arith, leb, eqb, length, lt-ltb, le-ltb}
 use Rattle.base.specs.Pick.{pick}
 use Rattle.node.specs.Version.{at_rest, is_leaf}
 use Rattle.node.specs.Layout.{version_at, nkeys_at, separator_at, child_at}

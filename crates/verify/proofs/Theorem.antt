@@ -1,6 +1,7 @@
 -- THE THEOREM: the check's number is 0 exactly where `Obeys` holds of the image, and then its three numbers are the tree's. The tests
 -- before and behind the tree are taken apart here; the tree itself is `layers-run`.
-use Rattle.base.specs.Kit.{Bool, true, false, not, false≢true, List, ◌≡◌, refl, ap, sym, ◌∙◌, subst, ℕ, ◌+◌, ◌-◌, ◌%◌, ◌≤◌, arith, eqb, length, eq-eqb, eqb-false, not-true}
+use Rattle.std.specs.Prelude.{◌≡◌, ◌+◌, ◌-◌, ◌%◌, ◌≤◌}
+use Rattle.base.specs.Kit.{Bool, true, false, not, false≢true, List, refl, ap, sym, ◌∙◌, subst, ℕ, arith, eqb, length, eq-eqb, eqb-false, not-true}
 use Rattle.base.specs.Pick.{pick}
 use Rattle.base.proofs.Choice.{pick_ind}
 use Rattle.node.specs.Layout.{root_offset, key_count, stated_length, edition}

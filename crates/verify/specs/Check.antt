@@ -1,6 +1,7 @@
 -- The check's answer for every byte list (01, "Check an image"). The tree is gone through in post-order, "the first fault
 -- deciding"; each test stands where 01 has it.
-use Rattle.base.specs.Kit.{Bool, true, false, not, ◌&&◌, ◌||◌, List, ℕ, zero, suc, ◌+◌, ◌*◌, ◌%◌, ◌-◌, ◌^◌, leb, ltb, eqb, length}
+use Rattle.std.specs.Prelude.{◌&&◌, ◌||◌, ◌+◌, ◌*◌, ◌%◌, ◌-◌, ◌^◌}
+use Rattle.base.specs.Kit.{Bool, true, false, not, List, ℕ, zero, suc, leb, ltb, eqb, length}
 use Rattle.base.specs.Pick.{pick}
 use Rattle.node.specs.Version.{is_leaf, at_rest}
 use Rattle.node.specs.Permuter.{size_of, slot_at}

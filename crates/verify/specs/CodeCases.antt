@@ -1,6 +1,7 @@
 -- What the check's inner functions answer, each in the order of its tests, and what the cases of their answers stand for.
 -- proofs/Steps.antt proves that they come to the check (specs/Check.antt).
-use Rattle.base.specs.Kit.{Bool, true, false, not, ◌&&◌, List, [], ◌≡◌, ℕ, zero, suc, ◌+◌, ◌*◌, ◌/◌, ◌≤◌, leb, eqb, length}
+use Rattle.std.specs.Prelude.{◌&&◌, ◌≡◌, ◌+◌, ◌*◌, ◌/◌, ◌≤◌}
+use Rattle.base.specs.Kit.{Bool, true, false, not, List, [], ℕ, zero, suc, leb, eqb, length}
 use Rattle.base.specs.Pick.{pick}
 use Rattle.node.specs.Version.{is_leaf, at_rest}
 use Rattle.node.specs.Permuter.{slot_at}

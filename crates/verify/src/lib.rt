@@ -9,7 +9,7 @@ mod pass;
 mod record;
 mod slot;
 
-ghost use Rattle.base.specs.Kit.{◌≡◌, ◌+◌, ◌*◌, ◌-◌, ◌≤◌};
+ghost use Rattle.std.specs.Prelude.{◌≡◌, ◌+◌, ◌*◌, ◌-◌, ◌≤◌};
 ghost use Rattle.node.specs.Layout.{permutation_at};
 ghost use Rattle.node.specs.Permuter.{size_of};
 ghost use Rattle.verify.specs.Check.{each, slot_c, node_c, check};

@@ -1,5 +1,6 @@
 // How far the check has come: from one part of the tree to the next.
-ghost use Rattle.base.specs.Kit.{◌≡◌, ◌+◌, ◌≤◌, length};
+ghost use Rattle.std.specs.Prelude.{◌≡◌, ◌+◌, ◌≤◌};
+ghost use Rattle.base.specs.Kit.{length};
 ghost use Rattle.node.specs.Layout.{InLeaf};
 ghost use Rattle.verify.specs.Check.{uncounted, stop, and_then, pass_value, enter_layer, leave_layer, finish, begin};
 ghost use Rattle.verify.specs.CodeCases.{record_end, leaf_end, layer_end, Bounded};

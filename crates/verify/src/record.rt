@@ -1,5 +1,5 @@
 // A record, from being reached up to its parts (01's numbers 3, 4, 9, 5 and 8), and an internode's children.
-ghost use Rattle.base.specs.Kit.{◌≡◌, ◌+◌, ◌≤◌, ◌<◌};
+ghost use Rattle.std.specs.Prelude.{◌≡◌, ◌+◌, ◌≤◌, ◌<◌};
 ghost use Rattle.node.specs.Layout.{InInternode, version_at, nkeys_at, separator_at};
 ghost use Rattle.verify.specs.Check.{reachable, expected, permutes, separators_from, low_end, high_end};
 ghost use Rattle.verify.specs.CodeCases.{leaf_check, internode_check, record_check, Sized};

@@ -1,5 +1,6 @@
 // A leaf's used slot (01's numbers 6, 7, 8 and 3).
-ghost use Rattle.base.specs.Kit.{◌≡◌, ◌&&◌, ◌+◌, ◌-◌, ◌%◌, ◌^◌, ◌≤◌, ◌<◌, eqb};
+ghost use Rattle.std.specs.Prelude.{◌≡◌, ◌&&◌, ◌+◌, ◌-◌, ◌%◌, ◌^◌, ◌≤◌, ◌<◌};
+ghost use Rattle.base.specs.Kit.{eqb};
 ghost use Rattle.node.specs.Permuter.{slot_at};
 ghost use Rattle.node.specs.Layout.{InSlot, ikey_at, keylenx_at, suffix_at};
 ghost use Rattle.verify.specs.Check.{listed, fits, before, in_order, in_range};

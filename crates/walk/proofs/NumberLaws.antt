@@ -1,5 +1,6 @@
 -- The test of a walk's numbers: what the code's fourth test says, what is left behind the sixth, and what a walk that passes has.
-use Rattle.base.specs.Kit.{◌≡◌, true, false, ◌&&◌, and-eq-true_iff, ℕ, ◌+◌, ◌*◌, ◌-◌, ◌≤◌, ◌<◌, arith, leb, leb-true, eqb-true, eq-eqb, lt-leb, le-leb}
+use Rattle.std.specs.Prelude.{◌≡◌, ◌&&◌, ◌+◌, ◌*◌, ◌-◌, ◌≤◌, ◌<◌}
+use Rattle.base.specs.Kit.{true, false, and-eq-true_iff, ℕ, arith, leb, leb-true, eqb-true, eq-eqb, lt-leb, le-leb}
 use Rattle.walk.specs.Types.{Walk}
 use Rattle.walk.specs.Walk.{walk_ok}
 

@@ -1,5 +1,6 @@
 -- What a placing that is not declined says of what it was given; and that the short form is the long one in mode from.
-use Rattle.base.specs.Kit.{◌≡◌, refl, Bool, true, false, List, ℕ, ◌≤◌, arith, length, ltb-false, eqb-true, eqb-false, not-true, not-false}
+use Rattle.std.specs.Prelude.{◌≡◌, ◌≤◌}
+use Rattle.base.specs.Kit.{refl, Bool, true, false, List, ℕ, arith, length, ltb-false, eqb-true, eqb-false, not-true, not-false}
 use Rattle.base.specs.Pick.{pick}
 use Rattle.base.proofs.Choice.{pick_ind}
 use Rattle.node.specs.Heading.{heading_fault, length_ok}

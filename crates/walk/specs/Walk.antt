@@ -1,6 +1,7 @@
 -- A walk between calls, over any record: what a step's answer says, the walk that has made no move, and the range of a walk's numbers
 -- (01, "Place a walk", "Step a walk").
-use Rattle.base.specs.Kit.{Bool, ◌&&◌, List, [], ◌∷◌, ℕ, ◌+◌, ◌*◌, leb, eqb, replicate}
+use Rattle.std.specs.Prelude.{◌&&◌, ◌∷◌, ◌+◌, ◌*◌}
+use Rattle.base.specs.Kit.{Bool, List, [], ℕ, leb, eqb, replicate}
 use Rattle.walk.specs.Types.{CursorKey, RangeBound, StartMode, Above, LayerContext, WalkState, Ended, HandedOut, Walk, Answer, Key, Nothing, Declined}
 
 -- WHAT AN ANSWER SAYS: 01's number of it, 0 where the step was not declined; how many keys are out, one or none; the key's length and its

@@ -1,5 +1,5 @@
 // What a step's answer says, as numbers (01: "a definition gives this paper's number and values for each of its cases").
-ghost use Rattle.base.specs.Kit.{◌≡◌};
+ghost use Rattle.std.specs.Prelude.{◌≡◌};
 ghost use Rattle.walk.specs.Walk.{number_of, answer_numbers};
 
 use crate::scan_state::{Answer, HandedOut};

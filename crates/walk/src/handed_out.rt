@@ -1,5 +1,5 @@
 // What a walk has handed out (02 [13]).
-ghost use Rattle.base.specs.Kit.{◌≡◌, ◌<◌, ◌^◌};
+ghost use Rattle.std.specs.Prelude.{◌≡◌, ◌<◌, ◌^◌};
 ghost use Rattle.walk.specs.Walk.{nothing_yet, one_more};
 
 use crate::scan_state::HandedOut;

@@ -1,5 +1,5 @@
 // Placing a walk (01, "Place a walk"): `place` and its short form take anything.
-ghost use Rattle.base.specs.Kit.{◌≡◌};
+ghost use Rattle.std.specs.Prelude.{◌≡◌};
 ghost use Rattle.walk.specs.Walk.{new_walk, zero_walk};
 ghost use Rattle.walk.specs.Placing.{place_fault, start_state, fresh_walk, place, place_short};
 

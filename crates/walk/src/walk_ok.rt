@@ -1,5 +1,5 @@
 // The test that stands before every step: 01's number 21.
-ghost use Rattle.base.specs.Kit.{◌≡◌};
+ghost use Rattle.std.specs.Prelude.{◌≡◌};
 ghost use Rattle.walk.specs.Walk.{walk_ok};
 
 use crate::scan_state::Walk;

@@ -1,5 +1,6 @@
 -- A copy that fills the whole slice.
-use Rattle.base.specs.Kit.{◌≡◌, subst, List, append-nil, ℕ, ◌<◌, ◌+◌, zero-add, add-one, length, set, get_or, paste, paste-suc, take-length, drop-length}
+use Rattle.std.specs.Prelude.{◌≡◌, ◌<◌, ◌+◌}
+use Rattle.base.specs.Kit.{subst, List, append-nil, ℕ, zero-add, add-one, length, set, get_or, paste, paste-suc, take-length, drop-length}
 use Rattle.key.specs.Part.{padded}
 
 pub paste-whole : (d s : List ℕ) → length d ≡ length s → paste d 0 s (length s) ≡ s

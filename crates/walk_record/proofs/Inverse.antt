@@ -1,6 +1,7 @@
 -- THE THEOREM: the two conversions between walks and records are inverse. `record_inverse`: on every walk; `walk_inverse`: on every
 -- record that is a walk's. Lists of known length are written out, and then both compute.
-use Rattle.base.specs.Kit.{◌≡◌, refl, true, List, ℕ, zero, suc, ◌≤◌, arith, leb, length, get_or, le-leb}
+use Rattle.std.specs.Prelude.{◌≡◌, ◌≤◌}
+use Rattle.base.specs.Kit.{refl, true, List, ℕ, zero, suc, arith, leb, length, get_or, le-leb}
 use Rattle.base.specs.Pick.{pick}
 use Rattle.walk.specs.Walk.{empty_context}
 use Rattle.walk_record.specs.Types.{StartMode, Above, From, Walk, WalkState, Start, Retry, FindNext, Ended}

@@ -1,5 +1,6 @@
 -- A list of known length is its elements written out.
-use Rattle.base.specs.Kit.{◌≡◌, List, [], ◌∷◌, ℕ, zero, suc, ◌+◌, arith, length, get_or, drop, drop-cons, drop-length}
+use Rattle.std.specs.Prelude.{◌≡◌, ◌∷◌, ◌+◌}
+use Rattle.base.specs.Kit.{List, [], ℕ, zero, suc, arith, length, get_or, drop, drop-cons, drop-length}
 
 -- the n elements of l from i on, each by its index
 unfoldable pub tabled : {A : Type 0} → A → List A → ℕ → ℕ → List A

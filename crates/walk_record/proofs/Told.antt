@@ -1,5 +1,6 @@
 -- What the tests of a record say.
-use Rattle.base.specs.Kit.{◌≡◌, true, and-eq-true_iff, List, ℕ, ◌≤◌, length, get_or, leb-true, eqb-true}
+use Rattle.std.specs.Prelude.{◌≡◌, ◌≤◌}
+use Rattle.base.specs.Kit.{true, and-eq-true_iff, List, ℕ, length, get_or, leb-true, eqb-true}
 use Rattle.walk_record.specs.Record.{numbers_in, sized, is_record}
 
 pub record Lengths (numbers buf bound : ℕ) : Type 0 where

@@ -1,5 +1,6 @@
 -- The two loops over the stack, as functions of the turns left, and what all turns come to.
-use Rattle.base.specs.Kit.{◌≡◌, refl, List, ℕ, zero, suc, ◌+◌, ◌*◌, ◌-◌, ◌<◌, ◌≤◌, arith, get_or, set, replicate}
+use Rattle.std.specs.Prelude.{◌≡◌, ◌+◌, ◌*◌, ◌-◌, ◌<◌, ◌≤◌}
+use Rattle.base.specs.Kit.{refl, List, ℕ, zero, suc, arith, get_or, set, replicate}
 use Rattle.base.proofs.Count.{left-more}
 use Rattle.walk_record.specs.Types.{LayerContext, Walk}
 use Rattle.walk_record.specs.Record.{stack_at, entry_at, entries, stack_numbers, numbers_of}

@@ -1,5 +1,6 @@
 -- Parts of a walk's record, as the functions make them. specs/Record.antt says what they come to.
-use Rattle.base.specs.Kit.{List, ◌∷◌, ℕ, get_or, replicate}
+use Rattle.std.specs.Prelude.{◌∷◌}
+use Rattle.base.specs.Kit.{List, ℕ, get_or, replicate}
 use Rattle.walk_record.specs.Types.{CursorKey, RangeBound, HandedOut, Walk}
 use Rattle.walk_record.specs.Record.{offset_at, len_at, ikey_at, kind_at, bound_len_at, last_depth_at, count_at, mode_number, state_number}
 

@@ -1,5 +1,6 @@
 -- A walk as a record that crosses to C: 76 numbers, and two buffers of 256 bytes, the cursor's and the bound's.
-use Rattle.base.specs.Kit.{Bool, ◌&&◌, List, [], ◌∷◌, ℕ, zero, suc, ◌+◌, ◌*◌, eqb, leb, length, get_or}
+use Rattle.std.specs.Prelude.{◌&&◌, ◌∷◌, ◌+◌, ◌*◌}
+use Rattle.base.specs.Kit.{Bool, List, [], ℕ, zero, suc, eqb, leb, length, get_or}
 use Rattle.base.specs.Pick.{pick}
 use Rattle.walk.specs.Walk.{empty_context}
 use Rattle.walk_record.specs.Types.{StartMode, Above, From, LayerContext, Walk, WalkState, Start, Retry, FindNext, Ended}

@@ -1,5 +1,6 @@
 // A walk and the record in which it crosses to C: 76 numbers and two buffers of 256 bytes, which the caller lends.
-ghost use Rattle.base.specs.Kit.{◌≡◌, ◌≤◌, length, get_or};
+ghost use Rattle.std.specs.Prelude.{◌≡◌, ◌≤◌};
+ghost use Rattle.base.specs.Kit.{length, get_or};
 ghost use Rattle.walk_record.specs.Record.{kind_at, numbers_in, mode_number, mode_of, state_number, state_of, numbers_of, entries, read_walk, sized, is_record};
 ghost use Rattle.walk_record.specs.CodeLaid.{head_of, read_cursor, read_bound, read_handed};
 

@@ -1,5 +1,6 @@
 -- P1 to P12 hold: the machine says of every example of the table what 01 says, by computation.
-use Rattle.base.specs.Kit.{map, ◌≡◌, refl}
+use Rattle.std.specs.Prelude.{◌≡◌}
+use Rattle.base.specs.Kit.{map, refl}
 use Rattle.base.specs.Pick.{pick}
 use Rattle.key.specs.Order.{order, then, byte_order}
 use Rattle.key.specs.Comparisons.{compared_by, compared}

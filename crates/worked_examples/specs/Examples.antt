@@ -1,5 +1,6 @@
 -- 01's surveyed examples P1 to P12, as one table and a single claim about the definitions.
-use Rattle.base.specs.Kit.{List, [], ◌∷◌, ◌++◌, Option, none, some, ℕ, zero, suc, ◌+◌, eqb, length, take, replicate}
+use Rattle.std.specs.Prelude.{◌∷◌, ◌++◌, ◌+◌}
+use Rattle.base.specs.Kit.{List, [], Option, none, some, ℕ, zero, suc, eqb, length, take, replicate}
 use Rattle.base.specs.Pick.{pick}
 use Rattle.layering.specs.Keys.{Pair}
 use Rattle.verify.specs.Check.{check, check_number, check_counts}

@@ -1,5 +1,6 @@
 -- Small images, built field by field from 01's layout, for the worked examples.
-use Rattle.base.specs.Kit.{Bool, true, false, List, [], ◌∷◌, ◌++◌, map, ℕ, zero, suc, ◌+◌, ◌*◌, ◌/◌, ◌%◌, ◌-◌, ◌^◌, length, replicate}
+use Rattle.std.specs.Prelude.{◌∷◌, ◌++◌, ◌+◌, ◌*◌, ◌/◌, ◌%◌, ◌-◌, ◌^◌}
+use Rattle.base.specs.Kit.{Bool, true, false, List, [], map, ℕ, zero, suc, length, replicate}
 use Rattle.base.specs.Pick.{pick}
 use Rattle.key.specs.Ikey.{ikey_of}
 

@@ -1,4 +1,5 @@
-use Rattle.base.specs.Kit.{◌-◌, length}
+use Rattle.std.specs.Prelude.{◌-◌}
+use Rattle.base.specs.Kit.{length}
 use Rattle.bench_loops.proofs.Counting.{Counts}
 use Rattle.bench_loops.proofs.by_value.Given as goal
 

@@ -1,5 +1,6 @@
 -- The loop over rows: a turn counts one, and at the end all are counted.
-use Rattle.base.specs.Kit.{◌∙◌, refl, ◌+◌, ◌^◌, ◌<◌, div-le_self, arith, length}
+use Rattle.std.specs.Prelude.{◌+◌, ◌^◌, ◌<◌}
+use Rattle.base.specs.Kit.{◌∙◌, refl, div-le_self, arith, length}
 use Rattle.base.proofs.Choice.{one_by_test, one_at_most}
 use Rattle.bench_loops.proofs.Rows.{begins, row_there, counts-on, all-counted, no_rows}
 use Rattle.bench_loops.proofs.timed_bound.Goals as goal

@@ -1,4 +1,4 @@
-use Rattle.base.specs.Kit.{◌-◌}
+use Rattle.std.specs.Prelude.{◌-◌}
 use Rattle.bench_loops.proofs.Rows.{Rows}
 use Rattle.bench_loops.proofs.timed_bound.Given as goal
 

@@ -1,5 +1,6 @@
 -- `builder::build` meets its contract: each return is one of the answer's cases.
-use Rattle.base.specs.Kit.{◌≡◌, sym, ◌∙◌, ◌+◌, arith, rules, length, take, length-take-le}
+use Rattle.std.specs.Prelude.{◌≡◌, ◌+◌}
+use Rattle.base.specs.Kit.{sym, ◌∙◌, arith, rules, length, take, length-take-le}
 use Rattle.builder.proofs.Answered.{sheet_declined, taken, too_long, long, too_short, image-written}
 use Rattle.builder.proofs.build.Goals as goal
 

@@ -1,5 +1,6 @@
 -- The two functions of the cycle meet their contracts.
-use Rattle.base.specs.Kit.{◌≡◌, ◌∙◌, arith}
+use Rattle.std.specs.Prelude.{◌≡◌}
+use Rattle.base.specs.Kit.{◌∙◌, arith}
 use Rattle.groups.proofs.GroupLaws.{fit-rest, fit-longs}
 use Rattle.groups.proofs.SizeLaws.{capped_most, all_tallied, tallied-none, slots-few, tally_turn, layer_tallied, long-none, long-one, long-more, long_line}
 use Rattle.groups.proofs.+layer_size_longs_size.Goals as goal

@@ -1,6 +1,6 @@
 -- What falls: two for each layer below, and one for a whole layer. The loop's invariant: what is left, counted on from the tally,
 -- comes to the same as the whole.
-use Rattle.base.specs.Kit.{◌+◌, ◌*◌, ◌≤◌}
+use Rattle.std.specs.Prelude.{◌+◌, ◌*◌, ◌≤◌}
 use Rattle.groups.specs.CodeGroups.{Fit, slots_at}
 use Rattle.groups.proofs.SizeLaws.{Tallied}
 use Rattle.groups.proofs.+layer_size_longs_size.Given as goal

@@ -1,6 +1,6 @@
 -- The loop's invariant: what is left of the group, from the line reached on, comes to the same as the whole (`SoFar`). The measure is
 -- the lines left.
-use Rattle.base.specs.Kit.{◌+◌, ◌-◌}
+use Rattle.std.specs.Prelude.{◌+◌, ◌-◌}
 use Rattle.groups.proofs.Found.{SoFar}
 use Rattle.groups.proofs.group_at.Given as goal
 

@@ -1,6 +1,6 @@
 -- The loop's invariant: the internodes so far and those over the level reached are all of them, and fewer than the leaves. The measure
 -- is the level's nodes.
-use Rattle.base.specs.Kit.{◌≡◌, ◌+◌, ◌≤◌}
+use Rattle.std.specs.Prelude.{◌≡◌, ◌+◌, ◌≤◌}
 use Rattle.building.proofs.Sizes.{internodes}
 use Rattle.groups.proofs.internodes_over.Given as goal
 

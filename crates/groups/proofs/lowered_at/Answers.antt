@@ -1,5 +1,6 @@
 -- `groups::lowered_at` meets its contract.
-use Rattle.base.specs.Kit.{◌≤◌, arith}
+use Rattle.std.specs.Prelude.{◌≤◌}
+use Rattle.base.specs.Kit.{arith}
 use Rattle.groups.proofs.LineRead.{line-short, line-lowered}
 use Rattle.groups.proofs.lowered_at.Goals as goal
 

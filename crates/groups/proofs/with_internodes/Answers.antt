@@ -1,5 +1,6 @@
 -- `groups::with_internodes` meets its contract.
-use Rattle.base.specs.Kit.{ap, ◌∙◌, ℕ, ◌+◌, ◌*◌}
+use Rattle.std.specs.Prelude.{◌+◌, ◌*◌}
+use Rattle.base.specs.Kit.{ap, ◌∙◌, ℕ}
 use Rattle.groups.specs.CodeSize.{capped}
 use Rattle.groups.proofs.with_internodes.Goals as goal
 

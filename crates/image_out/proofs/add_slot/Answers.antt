@@ -1,5 +1,6 @@
 -- `image_out::add_slot` meets its contract. Assumes nothing.
-use Rattle.base.specs.Kit.{◌<◌, arith, length}
+use Rattle.std.specs.Prelude.{◌<◌}
+use Rattle.base.specs.Kit.{arith, length}
 use Rattle.image_out.proofs.Rows.{Room, room_for_slot, slots_n, slot-more}
 use Rattle.image_out.proofs.add_slot.Goals as goal
 use Rattle.image_out.proofs.add_slot.Goals.{Start}

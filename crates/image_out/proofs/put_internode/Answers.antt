@@ -1,5 +1,6 @@
 -- `image_out::put_internode` meets its contract: four writes, one behind the other. Assumes nothing.
-use Rattle.base.specs.Kit.{◌≡◌, arith, length, rules}
+use Rattle.std.specs.Prelude.{◌≡◌}
+use Rattle.base.specs.Kit.{arith, length, rules}
 use Rattle.image_out.proofs.RecordBytes.{internode_puts}
 use Rattle.image_out.proofs.put_internode.Goals as goal
 use Rattle.image_out.proofs.put_internode.Goals.{After-nodes-1}

@@ -1,5 +1,6 @@
 -- `image_out::put_le` meets its contract. Assumes nothing.
-use Rattle.base.specs.Kit.{◌∙◌, ◌+◌, ◌≤◌, add-zero, sub-zero, arith, length, length-set, rules}
+use Rattle.std.specs.Prelude.{◌+◌, ◌≤◌}
+use Rattle.base.specs.Kit.{◌∙◌, add-zero, sub-zero, arith, length, length-set, rules}
 use Rattle.image_out.proofs.PutLaws.{le-more, le-none}
 use Rattle.image_out.proofs.put_le.Goals as goal
 

@@ -1,6 +1,7 @@
 -- The loop's invariant: what is left of the number, written behind the bytes that are there, makes the whole. The measure is how many
 -- bytes are left.
-use Rattle.base.specs.Kit.{◌≡◌, ◌+◌, ◌-◌, ◌≤◌, length}
+use Rattle.std.specs.Prelude.{◌≡◌, ◌+◌, ◌-◌, ◌≤◌}
+use Rattle.base.specs.Kit.{length}
 use Rattle.building.specs.Build.{le_bytes}
 use Rattle.building.specs.CodeWritten.{put}
 use Rattle.image_out.proofs.put_le.Given as goal

@@ -1,5 +1,6 @@
 -- `image_out::put_leaf` meets its contract: six writes, one behind the other. Assumes nothing.
-use Rattle.base.specs.Kit.{◌≤◌, arith, rules}
+use Rattle.std.specs.Prelude.{◌≤◌}
+use Rattle.base.specs.Kit.{arith, rules}
 use Rattle.image_out.proofs.Rows.{slots_n}
 use Rattle.image_out.proofs.RecordBytes.{leaf_puts}
 use Rattle.image_out.proofs.put_leaf.Goals as goal

@@ -1,5 +1,6 @@
 -- `image_out::put_lens` meets its contract: fifteen bytes, and a byte behind them. Assumes nothing.
-use Rattle.base.specs.Kit.{◌∙◌, ◌≡◌, ap, List, ◌+◌, ℕ, arith, set}
+use Rattle.std.specs.Prelude.{◌≡◌, ◌+◌}
+use Rattle.base.specs.Kit.{◌∙◌, ap, List, ℕ, arith, set}
 use Rattle.sheet.proofs.Paste.{paste_snoc}
 use Rattle.building.specs.Build.{words}
 use Rattle.image_out.proofs.PutRows.{byte-words}

@@ -1,5 +1,6 @@
 -- `image_out::put_row` meets its contract. Assumes nothing.
-use Rattle.base.specs.Kit.{◌≡◌, arith, length}
+use Rattle.std.specs.Prelude.{◌≡◌}
+use Rattle.base.specs.Kit.{arith, length}
 use Rattle.image_out.proofs.put_row.Goals as goal
 use Rattle.image_out.proofs.put_row.Goals.{After-put_words-arg-1}
 

@@ -1,5 +1,6 @@
 -- `image_out::put_words` meets its contract. Assumes nothing.
-use Rattle.base.specs.Kit.{◌∙◌, ap, ◌*◌, ◌+◌, ◌-◌, ◌<◌, ◌≤◌, add-zero, sub-zero, arith, get_or, length, length-paste, rules}
+use Rattle.std.specs.Prelude.{◌*◌, ◌+◌, ◌-◌, ◌<◌, ◌≤◌}
+use Rattle.base.specs.Kit.{◌∙◌, ap, add-zero, sub-zero, arith, get_or, length, length-paste, rules}
 use Rattle.building.specs.Build.{le_bytes}
 use Rattle.building.proofs.Stands.{le_bytes-length}
 use Rattle.image_out.proofs.PutLaws.{words_more, words-none}

@@ -1,5 +1,6 @@
 -- The loop's invariant: the words from i on, written behind those that are there, make the whole. The measure is how many are left.
-use Rattle.base.specs.Kit.{◌≡◌, ◌*◌, ◌+◌, ◌-◌, ◌≤◌, drop, length}
+use Rattle.std.specs.Prelude.{◌≡◌, ◌*◌, ◌+◌, ◌-◌, ◌≤◌}
+use Rattle.base.specs.Kit.{drop, length}
 use Rattle.building.specs.Build.{words}
 use Rattle.building.specs.CodeWritten.{put}
 use Rattle.image_out.proofs.put_words.Given as goal

@@ -1,5 +1,6 @@
 -- The loop over eights: each way through a turn has its law, and at its end single bytes decide.
-use Rattle.base.specs.Kit.{◌≡◌, ◌∙◌, ap, ap₂, ℕ, ◌+◌, ◌*◌, ◌/◌, ◌^◌, ◌<◌, arith, drop, length-drop}
+use Rattle.std.specs.Prelude.{◌≡◌, ◌+◌, ◌*◌, ◌/◌, ◌^◌, ◌<◌}
+use Rattle.base.specs.Kit.{◌∙◌, ap, ap₂, ℕ, arith, drop, length-drop}
 use Rattle.key.specs.declared.Compared.{Compared}
 use Rattle.key.proofs.Comparisons.{eights-begin, eights_differ, eights_agree, eights_end, by_bytes, bytes_most, part-rest}
 use Rattle.key.proofs.Bytes.{Bytes, bytes_of}

@@ -1,4 +1,4 @@
-use Rattle.base.specs.Kit.{◌-◌}
+use Rattle.std.specs.Prelude.{◌-◌}
 use Rattle.key.specs.Comparisons.{compared}
 use Rattle.key.proofs.Comparisons.{Left, singles}
 use Rattle.key.proofs.compare_by_eights.Given as goal

@@ -1,4 +1,5 @@
-use Rattle.base.specs.Kit.{[], ◌-◌}
+use Rattle.std.specs.Prelude.{◌-◌}
+use Rattle.base.specs.Kit.{[]}
 use Rattle.key.proofs.Comparisons.{Left, by_bytes}
 use Rattle.key.proofs.compare_bytes.Given as goal
 

@@ -1,6 +1,7 @@
 -- `key::copy_in` meets its contract. The loop's invariant: the buffer is the one that came in with the first i bytes pasted
 -- in. The measure is what is left of the bytes.
-use Rattle.base.specs.Kit.{◌≡◌, ◌∙◌, ◌+◌, ◌<◌, add-one, arith, length, length-set, paste-zero, paste-suc, rules}
+use Rattle.std.specs.Prelude.{◌≡◌, ◌+◌, ◌<◌}
+use Rattle.base.specs.Kit.{◌∙◌, add-one, arith, length, length-set, paste-zero, paste-suc, rules}
 use Rattle.key.proofs.copy_in.Goals as goal
 
 pub loop-i-init : goal.loop-i-init

@@ -1,6 +1,7 @@
 -- `key::ikey_of` meets its contract. The loop's invariant: the number so far is that of the first i bytes. The measure is
 -- what is left of eight.
-use Rattle.base.specs.Kit.{◌≡◌, ◌∙◌, suc, ◌+◌, ◌*◌, ◌^◌, ◌<◌, add-one, arith, get_or, rules}
+use Rattle.std.specs.Prelude.{◌≡◌, ◌+◌, ◌*◌, ◌^◌, ◌<◌}
+use Rattle.base.specs.Kit.{◌∙◌, suc, add-one, arith, get_or, rules}
 use Rattle.key.specs.Ikey.{be, ikey_of}
 use Rattle.key.proofs.Turns.{be-more, be-fits}
 use Rattle.key.proofs.ikey_of.Goals as goal

@@ -1,4 +1,4 @@
-use Rattle.base.specs.Kit.{◌≡◌, ◌-◌, ◌≤◌}
+use Rattle.std.specs.Prelude.{◌≡◌, ◌-◌, ◌≤◌}
 use Rattle.key.specs.Ikey.{be}
 use Rattle.key.proofs.ikey_of.Given as goal
 

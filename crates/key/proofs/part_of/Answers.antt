@@ -1,5 +1,6 @@
 -- `key::part_of` meets its contract: the part that the code cuts out has at + n - at bytes.
-use Rattle.base.specs.Kit.{◌≡◌, ◌+◌, ◌-◌, arith}
+use Rattle.std.specs.Prelude.{◌≡◌, ◌+◌, ◌-◌}
+use Rattle.base.specs.Kit.{arith}
 use Rattle.key.specs.Part.{part}
 use Rattle.key.proofs.part_of.Goals as goal
 

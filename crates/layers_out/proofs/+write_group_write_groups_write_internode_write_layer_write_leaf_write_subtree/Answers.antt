@@ -1,5 +1,6 @@
 -- The six functions of the cycle meet their contracts.
-use Rattle.base.specs.Kit.{◌⊎◌, inl, inr, ◌≡◌, refl, ap, ◌∙◌, ◌≤◌, ◌<◌, arith, length, rules}
+use Rattle.std.specs.Prelude.{◌⊎◌, ◌≡◌, ◌≤◌, ◌<◌}
+use Rattle.base.specs.Kit.{inl, inr, refl, ap, ◌∙◌, arith, length, rules}
 use Rattle.groups.specs.CodeGroups.{slots_at}
 use Rattle.layers_out.proofs.LeafParts.{whole-fits, groups_end, groups-stop, group-holds, group-room, groups_turn}
 use Rattle.layers_out.proofs.Leaf.{groups-room, record-fits, slots_held, link_fits, leaf-is}

@@ -1,6 +1,7 @@
 -- What falls: 64 for each layer that may lie below, and in a layer the height of what is written. Each loop's invariant: what is left,
 -- written from here, comes to the same as the whole.
-use Rattle.base.specs.Kit.{[], map, ◌+◌, ◌*◌, ◌-◌, length}
+use Rattle.std.specs.Prelude.{◌+◌, ◌*◌, ◌-◌}
+use Rattle.base.specs.Kit.{[], map, length}
 use Rattle.building.specs.Shape.{fill, leaf_of}
 use Rattle.building.specs.CodeOrder.{filled, left}
 use Rattle.building.specs.CodeLaid.{laid}

@@ -1,5 +1,6 @@
 -- `pb_build` meets its contract: the number, the output and the length are the builder's.
-use Rattle.base.specs.Kit.{ap, ◌∙◌, [], ◌∷◌}
+use Rattle.std.specs.Prelude.{◌∷◌}
+use Rattle.base.specs.Kit.{ap, ◌∙◌, []}
 use Rattle.punchbronze.specs.Types.{Built}
 use Rattle.builder.specs.Answer.{built_number, built_length}
 use Rattle.punchbronze.proofs.Lent.{one_put}

@@ -1,5 +1,6 @@
 -- `pb_tally` meets its contract: the number and the count are the tally's.
-use Rattle.base.specs.Kit.{ap, ◌∙◌, [], ◌∷◌}
+use Rattle.std.specs.Prelude.{◌∷◌}
+use Rattle.base.specs.Kit.{ap, ◌∙◌, []}
 use Rattle.punchbronze.specs.Types.{Tallied}
 use Rattle.survey.specs.Tally.{tally_number, tally_count}
 use Rattle.punchbronze.proofs.Lent.{count_put}

@@ -1,6 +1,7 @@
 -- The loop's invariant: the digits from i on, behind those that say y, are those from `at` on behind x. The measure is what is left of
 -- the slice.
-use Rattle.base.specs.Kit.{◌≡◌, ◌-◌, ◌≤◌, length, drop}
+use Rattle.std.specs.Prelude.{◌≡◌, ◌-◌, ◌≤◌}
+use Rattle.base.specs.Kit.{length, drop}
 use Rattle.reading.specs.Read.{digits}
 use Rattle.reading.proofs.digits_at.Given as goal
 

@@ -1,5 +1,6 @@
 -- One law for each way out.
-use Rattle.base.specs.Kit.{refl, ◌+◌, ◌<◌, arith, rules, length, le-ltb, lt-ltb}
+use Rattle.std.specs.Prelude.{◌+◌, ◌<◌}
+use Rattle.base.specs.Kit.{refl, arith, rules, length, le-ltb, lt-ltb}
 use Rattle.base.specs.Pick.{pick}
 use Rattle.reading.specs.CodeViews.{byte_seen}
 use Rattle.reading.proofs.Turns.{no_byte_there, hex_end, hex-short, hex_both}

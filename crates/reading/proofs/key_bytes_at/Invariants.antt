@@ -1,6 +1,7 @@
 -- The loop's invariant: the bytes from i on, stored from n on, make the whole, and leave what the whole leaves. The measure is what is
 -- left of the slice.
-use Rattle.base.specs.Kit.{◌≡◌, ◌+◌, ◌*◌, ◌-◌, ◌≤◌, length, drop, sets}
+use Rattle.std.specs.Prelude.{◌≡◌, ◌+◌, ◌*◌, ◌-◌, ◌≤◌}
+use Rattle.base.specs.Kit.{length, drop, sets}
 use Rattle.reading.specs.Read.{key_bytes}
 use Rattle.reading.proofs.key_bytes_at.Given as goal
 

@@ -1,5 +1,6 @@
 -- `reading::stations_at` meets its contract.
-use Rattle.base.specs.Kit.{◌≡◌, sym, ◌∙◌, true, ◌-◌, arith, rules, not-true, not-false}
+use Rattle.std.specs.Prelude.{◌≡◌, ◌-◌}
+use Rattle.base.specs.Kit.{sym, ◌∙◌, true, arith, rules, not-true, not-false}
 use Rattle.base.specs.Pick.{pick}
 use Rattle.base.proofs.Count.{left-more}
 use Rattle.key.specs.Part.{part}

@@ -1,6 +1,7 @@
 -- The loop's invariant: what the stations left say from `place` on, behind the key's text at `before`, is what all say from `at` on
 -- behind none. The measure is their number.
-use Rattle.base.specs.Kit.{◌≡◌, [], true, ◌+◌, ◌-◌, ◌≤◌, length, drop}
+use Rattle.std.specs.Prelude.{◌≡◌, ◌+◌, ◌-◌, ◌≤◌}
+use Rattle.base.specs.Kit.{[], true, length, drop}
 use Rattle.key.specs.Part.{part}
 use Rattle.reading.specs.Read.{stations}
 use Rattle.reading.specs.CodeViews.{risen}

@@ -1,5 +1,6 @@
 -- `reading::word_at` meets its contract.
-use Rattle.base.specs.Kit.{◌≡◌, ◌∙◌, ◌+◌, arith, rules}
+use Rattle.std.specs.Prelude.{◌≡◌, ◌+◌}
+use Rattle.base.specs.Kit.{◌∙◌, arith, rules}
 use Rattle.reading.proofs.Turns.{word_end, word-short, word_other, word_more}
 use Rattle.reading.proofs.word_at.Goals as goal
 

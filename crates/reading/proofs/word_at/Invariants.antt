@@ -1,6 +1,7 @@
 -- The loop's invariant: the rest of the word stands behind the bytes passed where the whole stands at `at`. The measure is what is left
 -- of the word.
-use Rattle.base.specs.Kit.{◌≡◌, ◌+◌, ◌-◌, ◌≤◌, length, drop}
+use Rattle.std.specs.Prelude.{◌≡◌, ◌+◌, ◌-◌, ◌≤◌}
+use Rattle.base.specs.Kit.{length, drop}
 use Rattle.reading.specs.CodeViews.{word_at}
 use Rattle.reading.proofs.word_at.Given as goal
 

@@ -1,5 +1,6 @@
 -- Each length is one that `field` gave back.
-use Rattle.base.specs.Kit.{◌≡◌, subst, ℕ, ◌≤◌}
+use Rattle.std.specs.Prelude.{◌≡◌, ◌≤◌}
+use Rattle.base.specs.Kit.{subst, ℕ}
 use Rattle.requests.specs.Requests.{Within}
 use Rattle.requests.specs.declared.Read.{Read}
 use Rattle.requests.specs.declared.Read.TheVariants.{Number}

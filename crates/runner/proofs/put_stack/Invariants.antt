@@ -1,5 +1,5 @@
 -- The loop over the stack's entries ends: the measure is how many of the 31 are left.
-use Rattle.base.specs.Kit.{◌-◌}
+use Rattle.std.specs.Prelude.{◌-◌}
 use Rattle.runner.proofs.put_stack.Given as goal
 
 abbrev pub decreases-loop-i : goal.decreases-loop-i

@@ -1,4 +1,5 @@
-use Rattle.base.specs.Kit.{◌≡◌, ◌+◌, ◌≤◌, length}
+use Rattle.std.specs.Prelude.{◌≡◌, ◌+◌, ◌≤◌}
+use Rattle.base.specs.Kit.{length}
 use Rattle.sheet.specs.Sheet.{decimal}
 use Rattle.sheet.proofs.decimal_len.Given as goal
 

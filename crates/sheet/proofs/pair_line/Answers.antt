@@ -1,5 +1,6 @@
 -- `sheet::pair_line` meets its contract: the key in hex and a space, then the value and a newline.
-use Rattle.base.specs.Kit.{◌≡◌, ◌∙◌, List, [], ◌∷◌, ◌++◌, ℕ, ◌+◌, arith, length, length-append}
+use Rattle.std.specs.Prelude.{◌≡◌, ◌∷◌, ◌++◌, ◌+◌}
+use Rattle.base.specs.Kit.{◌∙◌, List, [], ℕ, arith, length, length-append}
 use Rattle.sheet.specs.Sheet.{hex_key, pair_line}
 use Rattle.sheet.proofs.Decimal.{decimal-length}
 use Rattle.sheet.proofs.Paste.{one-behind, too_long, in_two}

@@ -1,6 +1,7 @@
 -- `sheet::put_decimal` meets its contract. The loop's invariant: the digits of what is left, written at `at`, make the whole;
 -- i is the place of the last of them. The measure is what is left.
-use Rattle.base.specs.Kit.{◌≡◌, refl, ◌∙◌, ◌+◌, ◌/◌, ◌≤◌, ◌<◌, arith, length, rules}
+use Rattle.std.specs.Prelude.{◌≡◌, ◌+◌, ◌/◌, ◌≤◌, ◌<◌}
+use Rattle.base.specs.Kit.{refl, ◌∙◌, arith, length, rules}
 use Rattle.sheet.specs.Sheet.{decimal}
 use Rattle.sheet.proofs.Decimal.{decimal-length, decimal-more-length, digit-more, digit-one}
 use Rattle.sheet.proofs.put_decimal.Goals as goal

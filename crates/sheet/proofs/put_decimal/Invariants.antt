@@ -1,4 +1,5 @@
-use Rattle.base.specs.Kit.{◌≡◌, ◌+◌, ◌≤◌, ◌<◌, length, paste}
+use Rattle.std.specs.Prelude.{◌≡◌, ◌+◌, ◌≤◌, ◌<◌}
+use Rattle.base.specs.Kit.{length, paste}
 use Rattle.sheet.specs.Sheet.{decimal}
 use Rattle.sheet.proofs.put_decimal.Given as goal
 

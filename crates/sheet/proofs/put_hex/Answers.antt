@@ -1,6 +1,7 @@
 -- `sheet::put_hex` meets its contract. The loop's invariant: the digits of the bytes from i on, written at 2 * i, make the
 -- whole. The measure is what is left of the key.
-use Rattle.base.specs.Kit.{◌∙◌, ◌*◌, ◌≤◌, ◌<◌, arith, length, get_or, length-set, rules}
+use Rattle.std.specs.Prelude.{◌*◌, ◌≤◌, ◌<◌}
+use Rattle.base.specs.Kit.{◌∙◌, arith, length, get_or, length-set, rules}
 use Rattle.sheet.proofs.Hex.{hex-more, hex-none}
 use Rattle.sheet.proofs.put_hex.Goals as goal
 use Rattle.sheet.proofs.put_hex.Goals.{After-shared_slice_known-in-loop-i-1}

@@ -1,4 +1,5 @@
-use Rattle.base.specs.Kit.{◌≡◌, ◌*◌, ◌-◌, ◌≤◌, length, drop, paste}
+use Rattle.std.specs.Prelude.{◌≡◌, ◌*◌, ◌-◌, ◌≤◌}
+use Rattle.base.specs.Kit.{length, drop, paste}
 use Rattle.sheet.specs.Sheet.{hex_bytes}
 use Rattle.sheet.proofs.put_hex.Given as goal
 

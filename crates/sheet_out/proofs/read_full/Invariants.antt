@@ -1,6 +1,7 @@
 -- The loop over the reads ends: the measure is the room that is left, and a read of nothing ends it. What is done stays within the buffer,
 -- whose length stays.
-use Rattle.base.specs.Kit.{◌≡◌, ◌≤◌, ◌-◌, length}
+use Rattle.std.specs.Prelude.{◌≡◌, ◌≤◌, ◌-◌}
+use Rattle.base.specs.Kit.{length}
 use Rattle.sheet_out.proofs.read_full.Given as goal
 
 abbrev pub invariant-loop-done : goal.invariant-loop-done

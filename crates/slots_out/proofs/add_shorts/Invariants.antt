@@ -1,5 +1,5 @@
 -- The loop's invariant: the slots of the lines left, behind those added, are all (`ShortsSoFar`). The measure is the lines left.
-use Rattle.base.specs.Kit.{◌-◌}
+use Rattle.std.specs.Prelude.{◌-◌}
 use Rattle.slots_out.proofs.Shorts.{ShortsSoFar}
 use Rattle.slots_out.proofs.add_shorts.Given as goal
 

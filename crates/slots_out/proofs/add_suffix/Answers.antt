@@ -1,5 +1,6 @@
 -- `slots_out::add_suffix` meets its contract.
-use Rattle.base.specs.Kit.{◌≤◌, ◌<◌, ◌+◌, ◌*◌, ◌/◌, length, arith}
+use Rattle.std.specs.Prelude.{◌≤◌, ◌<◌, ◌+◌, ◌*◌, ◌/◌}
+use Rattle.base.specs.Kit.{length, arith}
 use Rattle.layering.specs.Tree.{beyond}
 use Rattle.slots_out.proofs.Suffix.{long_sizes, suffix_end, suffix-laid}
 use Rattle.slots_out.proofs.add_suffix.Goals as goal

@@ -1,4 +1,4 @@
-use Rattle.base.specs.Kit.{◌≡◌, ◌≤◌, ◌-◌}
+use Rattle.std.specs.Prelude.{◌≡◌, ◌≤◌, ◌-◌}
 use Rattle.start.specs.Start.{start_from, start_position}
 use Rattle.start.proofs.start_position.Given as goal
 

@@ -1,6 +1,7 @@
 -- The two functions of the cycle meet their contracts. What a turn of each loop comes to is proved first, in `turned` and
 -- `gone`, and what is known of an internode in `inner`.
-use Rattle.base.specs.Kit.{◌≡◌, ℕ, ◌+◌, ◌-◌, ◌<◌, sub-zero, arith, rules}
+use Rattle.std.specs.Prelude.{◌≡◌, ◌+◌, ◌-◌, ◌<◌}
+use Rattle.base.specs.Kit.{ℕ, sub-zero, arith, rules}
 use Rattle.node.proofs.PermuterLaws.{size_fits}
 use Rattle.verify.specs.Check.{slot_c}
 use Rattle.verify.specs.CodeCases.{sub_c}

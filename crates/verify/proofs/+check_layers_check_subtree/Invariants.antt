@@ -1,6 +1,6 @@
 -- What falls: 14 for each layer that may lie below, and in a subtree the internodes left on a path besides. Each loop's
 -- invariant: what is left, from part i on, comes to the same as the whole, and the numbers stay small.
-use Rattle.base.specs.Kit.{◌≡◌, ◌+◌, ◌*◌, ◌-◌, ◌≤◌}
+use Rattle.std.specs.Prelude.{◌≡◌, ◌+◌, ◌*◌, ◌-◌, ◌≤◌}
 use Rattle.node.specs.Layout.{permutation_at, nkeys_at}
 use Rattle.node.specs.Permuter.{size_of}
 use Rattle.verify.specs.Check.{each, slot_c}

@@ -1,5 +1,6 @@
 -- The key that is stored is the definition's, and fits the buffer; the tests stand in the order of the definition.
-use Rattle.base.specs.Kit.{◌∙◌, sym, ◌+◌, ◌≤◌, rules}
+use Rattle.std.specs.Prelude.{◌+◌, ◌≤◌}
+use Rattle.base.specs.Kit.{◌∙◌, sym, rules}
 use Rattle.base.specs.Pick.{pick}
 use Rattle.key.specs.Part.{part}
 use Rattle.moves.specs.Moves.{hand_out, emit_key, take_key}

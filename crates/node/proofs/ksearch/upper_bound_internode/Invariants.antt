@@ -1,4 +1,4 @@
-use Rattle.base.specs.Kit.{◌≡◌, ◌≤◌, ◌-◌}
+use Rattle.std.specs.Prelude.{◌≡◌, ◌≤◌, ◌-◌}
 use Rattle.node.specs.Ksearch.{upper_bound}
 use Rattle.node.proofs.ksearch.upper_bound_internode.Given as goal
 

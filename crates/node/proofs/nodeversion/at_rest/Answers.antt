@@ -1,5 +1,6 @@
 -- The four bits are tested in the order of the definition, so each test on the way settles one choice of it.
-use Rattle.base.specs.Kit.{◌≡◌, Bool, true, false, not}
+use Rattle.std.specs.Prelude.{◌≡◌}
+use Rattle.base.specs.Kit.{Bool, true, false, not}
 use Rattle.base.specs.Pick.{pick}
 use Rattle.base.proofs.Choice.{choices}
 use Rattle.node.specs.Version.{at_rest}

@@ -1,5 +1,6 @@
 -- `step_fast` meets its contract: the key that is stored is out, or past the bound, and the record is changed in place.
-use Rattle.base.specs.Kit.{◌+◌, ◌^◌, ◌≤◌, ◌<◌, sym, ◌∙◌, arith, get_or, rules}
+use Rattle.std.specs.Prelude.{◌+◌, ◌^◌, ◌≤◌, ◌<◌}
+use Rattle.base.specs.Kit.{sym, ◌∙◌, arith, get_or, rules}
 use Rattle.moves.proofs.FastLaws.{next_place, stored_next}
 use Rattle.moves.proofs.StoredKey.{key_fits, key-buf-length}
 use Rattle.walk_record.specs.Record.{count_at}

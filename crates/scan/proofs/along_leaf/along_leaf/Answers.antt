@@ -1,5 +1,6 @@
 -- The loop's invariant is `Going`, with as many keys as moves; each way out of it has its law.
-use Rattle.base.specs.Kit.{not, ap, ◌+◌, ◌-◌, ◌≡◌, sym, ◌∙◌, refl, arith, rules}
+use Rattle.std.specs.Prelude.{◌+◌, ◌-◌, ◌≡◌}
+use Rattle.base.specs.Kit.{not, ap, sym, ◌∙◌, refl, arith, rules}
 use Rattle.moves.proofs.Answers.{there-in}
 use Rattle.moves.proofs.FastLaws.{fast_facts, stored_next}
 use Rattle.moves.proofs.StoredKey.{key_fits, key-buf-length}

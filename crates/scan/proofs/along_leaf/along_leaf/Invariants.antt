@@ -1,4 +1,5 @@
-use Rattle.base.specs.Kit.{◌+◌, ◌-◌, length}
+use Rattle.std.specs.Prelude.{◌+◌, ◌-◌}
+use Rattle.base.specs.Kit.{length}
 use Rattle.scan.proofs.AlongLaws.{Going}
 use Rattle.scan.proofs.along_leaf.along_leaf.Given as goal
 

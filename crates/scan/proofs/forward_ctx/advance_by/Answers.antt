@@ -1,7 +1,8 @@
 -- The loop's invariant, `Held`: the moves that are left come to what all of them come to, and the numbers are in range. Two ways lead
 -- past the moves along a leaf (`holds`), two to the pass, with and without a layer taken back (`ready`), and each outcome of it has its
 -- law.
-use Rattle.base.specs.Kit.{◌+◌, ◌^◌, ◌<◌, ◌≡◌, refl, sym, ◌∙◌, arith, rules, length}
+use Rattle.std.specs.Prelude.{◌+◌, ◌^◌, ◌<◌, ◌≡◌}
+use Rattle.base.specs.Kit.{refl, sym, ◌∙◌, arith, rules, length}
 use Rattle.scan.specs.Types.{Push, Emit}
 use Rattle.moves.proofs.Laws.{asked}
 use Rattle.scan.specs.Machine.{scan_of}

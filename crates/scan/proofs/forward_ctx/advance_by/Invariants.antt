@@ -1,4 +1,5 @@
-use Rattle.base.specs.Kit.{◌-◌, length}
+use Rattle.std.specs.Prelude.{◌-◌}
+use Rattle.base.specs.Kit.{length}
 use Rattle.scan.proofs.LoopLaws.{Held}
 use Rattle.scan.proofs.forward_ctx.advance_by.Given as goal
 

@@ -1,5 +1,6 @@
 -- Each answer of the fast path has its law; the loop makes every other step.
-use Rattle.base.specs.Kit.{ap, not, ◌+◌, ◌^◌, ◌≤◌, ◌<◌, ◌≡◌, sym, ◌∙◌, subst, true, arith, rules, length}
+use Rattle.std.specs.Prelude.{◌+◌, ◌^◌, ◌≤◌, ◌<◌, ◌≡◌}
+use Rattle.base.specs.Kit.{ap, not, sym, ◌∙◌, subst, true, arith, rules, length}
 use Rattle.scan.specs.Types.{ScanCtx, At}
 use Rattle.search.specs.Traversal.{leaf_there}
 use Rattle.moves.specs.CodeMoves.{InRange}

@@ -1,4 +1,4 @@
-use Rattle.base.specs.Kit.{◌≡◌, ◌≤◌, ◌-◌}
+use Rattle.std.specs.Prelude.{◌≡◌, ◌≤◌, ◌-◌}
 use Rattle.node.specs.Layout.{permutation_at}
 use Rattle.node.specs.Permuter.{size_of}
 use Rattle.search.specs.Helper.{after_suffix}

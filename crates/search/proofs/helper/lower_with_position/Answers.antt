@@ -1,5 +1,6 @@
 -- The search comes to the position that its definition names. The invariant: from position i on it comes to the same as the whole.
-use Rattle.base.specs.Kit.{◌≤◌, sub-zero, arith, rules}
+use Rattle.std.specs.Prelude.{◌≤◌}
+use Rattle.base.specs.Kit.{sub-zero, arith, rules}
 use Rattle.search.specs.Helper.{lower_with_position}
 use Rattle.search.proofs.Answers.{by_less, by_equal, by-greater}
 use Rattle.search.proofs.HelperLaws.{lower-fault, lower_turn_lem, lower-stop}

@@ -1,4 +1,4 @@
-use Rattle.base.specs.Kit.{◌≡◌, ◌≤◌, ◌-◌}
+use Rattle.std.specs.Prelude.{◌≡◌, ◌≤◌, ◌-◌}
 use Rattle.search.specs.Helper.{lower_from, lower_with_position}
 use Rattle.search.proofs.helper.lower_with_position.Given as goal
 

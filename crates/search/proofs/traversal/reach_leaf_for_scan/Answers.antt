@@ -1,6 +1,7 @@
 -- The descent comes to the leaf that its definition names. The invariant: from the record at hand it comes to the same as
 -- from the root. The measure is the record's offset, since a child lies below its parent.
-use Rattle.base.specs.Kit.{sym, ◌∙◌, ◌≤◌, arith}
+use Rattle.std.specs.Prelude.{◌≤◌}
+use Rattle.base.specs.Kit.{sym, ◌∙◌, arith}
 use Rattle.search.proofs.TraversalLaws.{internode_in, no_record, at_leaf, too_many, not_lower, lower}
 use Rattle.search.proofs.traversal.reach_leaf_for_scan.Goals as goal
 

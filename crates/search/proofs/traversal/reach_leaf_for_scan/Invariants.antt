@@ -1,4 +1,4 @@
-use Rattle.base.specs.Kit.{◌≡◌}
+use Rattle.std.specs.Prelude.{◌≡◌}
 use Rattle.search.specs.Traversal.{reach}
 use Rattle.search.proofs.traversal.reach_leaf_for_scan.Given as goal
 

@@ -1,5 +1,5 @@
 -- The invariant: what is left, from separator i on and above the one before it, comes to the same as the whole.
-use Rattle.base.specs.Kit.{◌≡◌, ◌≤◌, ◌+◌, ◌-◌}
+use Rattle.std.specs.Prelude.{◌≡◌, ◌≤◌, ◌+◌, ◌-◌}
 use Rattle.verify.specs.Check.{separators_from}
 use Rattle.verify.proofs.record.has_separators.Given as goal
 

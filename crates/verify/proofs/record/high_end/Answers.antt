@@ -1,5 +1,6 @@
 -- The test is the definition's; a separator is above 0, so that what is below it is one less.
-use Rattle.base.specs.Kit.{◌<◌, arith, rules}
+use Rattle.std.specs.Prelude.{◌<◌}
+use Rattle.base.specs.Kit.{arith, rules}
 use Rattle.node.specs.Layout.{separator_at}
 use Rattle.verify.proofs.RecordTests.{high_inner, high-last}
 use Rattle.verify.proofs.record.high_end.Goals as goal

@@ -1,5 +1,5 @@
 -- The invariant: what is left, from field i on, comes to the same as the whole, and `seen` tells the slots before it.
-use Rattle.base.specs.Kit.{◌≡◌, ◌≤◌, ◌-◌}
+use Rattle.std.specs.Prelude.{◌≡◌, ◌≤◌, ◌-◌}
 use Rattle.verify.specs.Check.{permutes, permutes_from}
 use Rattle.verify.proofs.RecordTests.{Seen}
 use Rattle.verify.proofs.record.is_permutation.Given as goal

@@ -1,6 +1,7 @@
 -- `record::copy_words` meets its contract. The loop's invariant: the slice is the one that came in with the first i numbers
 -- pasted in. The measure is what is left of the numbers.
-use Rattle.base.specs.Kit.{◌≡◌, ◌∙◌, ◌<◌, arith, length, length-set, paste-zero, rules}
+use Rattle.std.specs.Prelude.{◌≡◌, ◌<◌}
+use Rattle.base.specs.Kit.{◌∙◌, arith, length, length-set, paste-zero, rules}
 use Rattle.walk_record.proofs.Copies.{paste-whole, paste-next}
 use Rattle.walk_record.proofs.record.copy_words.Goals as goal
 

@@ -1,4 +1,5 @@
-use Rattle.base.specs.Kit.{◌≡◌, ◌-◌, ◌≤◌, length, paste}
+use Rattle.std.specs.Prelude.{◌≡◌, ◌-◌, ◌≤◌}
+use Rattle.base.specs.Kit.{length, paste}
 use Rattle.walk_record.proofs.record.copy_words.Given as goal
 
 abbrev pub invariant-loop-i : goal.invariant-loop-i

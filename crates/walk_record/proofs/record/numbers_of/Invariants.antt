@@ -1,4 +1,5 @@
-use Rattle.base.specs.Kit.{◌≡◌, ◌-◌, ◌≤◌, length}
+use Rattle.std.specs.Prelude.{◌≡◌, ◌-◌, ◌≤◌}
+use Rattle.base.specs.Kit.{length}
 use Rattle.walk_record.proofs.Turns.{spread}
 use Rattle.walk_record.proofs.record.numbers_of.Given as goal
 

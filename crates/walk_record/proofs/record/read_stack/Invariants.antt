@@ -1,4 +1,5 @@
-use Rattle.base.specs.Kit.{◌≡◌, ◌-◌, ◌≤◌, length}
+use Rattle.std.specs.Prelude.{◌≡◌, ◌-◌, ◌≤◌}
+use Rattle.base.specs.Kit.{length}
 use Rattle.walk_record.proofs.Turns.{fill}
 use Rattle.walk_record.proofs.record.read_stack.Given as goal
 
