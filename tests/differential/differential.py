@@ -5,7 +5,7 @@
     differential.py --store crates/replay                    writes a stored list of 400 walks
 
 Needs target/oracle/bin/oracle, the Rust's scan made runnable over images (oracle/build.sh), and target/bin/replay, the proved
-program (`rt check replay`). Both get the same images, accepted and damaged, cursors and bounds; every answer is compared: key,
+program (`tools/program replay`). Both get the same images, accepted and damaged, cursors and bounds; every answer is compared: key,
 value, moves, and the whole walk after each call (position, leaf, root, cursor, buffer, stack). One difference is due and no other:
 a walk that hands out its included end is ended there, where the Rust moves on (`stopped`). Depth and count, which the Rust has not,
 are worked out from its lines (`counted`). Accepted are the images that the port's check takes with the numbers that the builder
