@@ -2,3 +2,4 @@ pub mod Choice
 pub mod Tests
 pub mod Count
 pub mod Needs
+pub mod Declines

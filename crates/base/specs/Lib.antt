@@ -1,2 +1,3 @@
 pub mod Kit
 pub mod Pick
+pub mod Decline

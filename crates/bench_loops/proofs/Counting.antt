@@ -1,7 +1,8 @@
 -- The counting loops: their invariant, and what each way through a turn says of it; and what the placing's number decides.
-use Rattle.std.specs.Prelude.{◌≡◌, ◌+◌, ◌-◌, ◌≤◌, ◌<◌}
-use Rattle.base.specs.Kit.{refl, ◌∙◌, List, [], ℕ, suc, sub-zero, zero-add, arith, length, eq-eqb, ne_eqb}
+use Rattle.std.specs.Prelude.{◌≡◌, ◌+◌, ◌-◌, ◌≤◌, ◌<◌, Option, None, Some}
+use Rattle.base.specs.Kit.{refl, ◌∙◌, List, [], ℕ, suc, sub-zero, zero-add, arith, length}
 use Rattle.base.specs.Pick.{pick}
+use Rattle.base.specs.declared.Decline.{Decline}
 use Rattle.base.proofs.Count.{left-more}
 use Rattle.cursor.specs.declared.range_bound.StartMode.TheVariants.{Above}
 use Rattle.walk.specs.Walk.{keys_of}
@@ -9,10 +10,9 @@ use Rattle.walk.specs.Placing.{place}
 use Rattle.scan.specs.Machine.{step}
 use Rattle.walk.specs.declared.scan_state.Placed.{Placed}
 use Rattle.walk.specs.declared.scan_state.Walk.{Walk}
-use Rattle.walk.specs.declared.scan_state.Answer.{Answer}
-use Rattle.walk.specs.declared.scan_state.Answer.TheVariants.{Key, Nothing, Declined}
+use Rattle.walk.specs.Types.{Answer}
 use Rattle.walk.specs.declared.scan_state.Stepped.{Stepped}
-use Rattle.bench_loops.specs.CodeCounting.{count_key, keys_from, keys_above}
+use Rattle.bench_loops.specs.CodeCounting.{count_key, keys_from, none_if, keys_above}
 
 -- THE INVARIANT of a loop that began at the walk w₀: the keys counted and those still to be counted are all of them.
 abbrev pub Counts : List ℕ → Walk → Walk → ℕ → Type 0
@@ -23,12 +23,11 @@ Counts image w₀ w count =
 pub begins : (image : List ℕ) (w : Walk) → Counts image w w 0
 begins image w = (omega arith, simp (sub-zero, zero-add))
 
--- A TURN of the loop, of n in all, with its step's answer a.
+-- A TURN of the loop, of n in all, with its step s.
 pub turn : (image : List ℕ) (n count : ℕ) (w : Walk) → count < n → (s : Stepped) → s ≡ step w image
-    → (a : Answer) → s.answer ≡ a
-    → keys_from (n - count) w image ≡ count_key a (keys_from (n - (count + 1)) s.walk image)
+    → keys_from (n - count) w image ≡ count_key s.answer (keys_from (n - (count + 1)) s.walk image)
 unfolding keys_from
-turn image n count w h s e a f = rw (left-more n count h, ← e, f)
+turn image n count w h s e = rw (left-more n count h, ← e)
 
 -- none is left of n
 pub no_turn : (image : List ℕ) (n count : ℕ) (w : Walk) → n ≤ count → keys_from (n - count) w image ≡ 0
@@ -36,42 +35,40 @@ unfolding keys_from
 no_turn image n count w h = let e : n - count ≡ 0 = omega arith in rw e
 
 -- the answers
-a_key : (len value rest : ℕ) → count_key (Key len value) rest ≡ suc rest
-unfolding count_key keys_of pick
-a_key len value rest = refl
+a_key : (a : Answer) (rest : ℕ) → keys_of a ≡ 1 → count_key a rest ≡ suc rest
+unfolding count_key pick
+a_key a rest e = rw e
 
-no_key : (rest : ℕ) → count_key Nothing rest ≡ 0
-unfolding count_key keys_of pick
-no_key rest = refl
+no_key : (a : Answer) (rest : ℕ) → keys_of a ≡ 0 → count_key a rest ≡ 0
+unfolding count_key pick
+no_key a rest e = rw e
 
-declined-key : (n rest : ℕ) → count_key (Declined n) rest ≡ 0
-unfolding count_key keys_of pick
-declined-key n rest = refl
+-- nothing is declined
+all_if : (o : Option Decline) → ((d : Decline) → o ≡ Some d → ⊥) → (n : ℕ) → n ≡ none_if o n
+all_if None h n = refl
+all_if (Some d) h n = absurd (h d refl)
 
 module _ (image : List ℕ) (w₀ w : Walk) (count : ℕ) (inv : Counts image w₀ w count) where
   module _ (h : count < length image) (s : Stepped) (e : s ≡ step w image) where
     -- a key: the loop goes on from the step's walk
-    pub goes_on_lem : (len value : ℕ) → s.answer ≡ Key len value → Counts image w₀ s.walk (count + 1)
-    goes_on_lem len value f = let t = turn image (length image) count w h s e (Key len value) f ∙ a_key len value _ in (omega arith, omega (arith, t, inv.1))
+    pub goes_on_lem : keys_of s.answer ≡ 1 → Counts image w₀ s.walk (count + 1)
+    goes_on_lem f = let t = turn image (length image) count w h s e ∙ a_key s.answer _ f in (omega arith, omega (arith, t, inv.1))
 
-    -- none, or a decline: the loop ends
-    pub ends : s.answer ≡ Nothing → count ≡ keys_from (length image) w₀ image
-    ends f = let t = turn image (length image) count w h s e Nothing f ∙ no_key _ in omega (arith, t, inv.1)
-
-    pub stops : (n : ℕ) → s.answer ≡ Declined n → count ≡ keys_from (length image) w₀ image
-    stops n f = let t = turn image (length image) count w h s e (Declined n) f ∙ declined-key n _ in omega (arith, t, inv.1)
+    -- no key: the loop ends
+    pub ends : keys_of s.answer ≡ 0 → count ≡ keys_from (length image) w₀ image
+    ends f = let t = turn image (length image) count w h s e ∙ no_key s.answer _ f in omega (arith, t, inv.1)
 
   -- as many keys as the image has bytes
-  pub runs-out : length image ≤ count → count ≡ keys_from (length image) w₀ image
-  runs-out h = let t = no_turn image (length image) count w h in omega (arith, t, inv.1)
+  pub runs-out : length image ≤ count → length image ≡ keys_from (length image) w₀ image
+  runs-out h = let t = no_turn image (length image) count w h in omega (arith, t, inv)
 
 module _ (image : List ℕ) (p : Placed) (e : p ≡ place image Above [] 0 []) where
   -- the placing is declined
-  pub declined : (p.code ≡ 0 → ⊥) → 0 ≡ keys_above image
-  unfolding keys_above pick
-  declined h = rw (← e, ne_eqb p.code 0 h)
+  pub declined : (d : Decline) → p.declined ≡ Some d → 0 ≡ keys_above image
+  unfolding keys_above
+  declined d h = rw (← e, h)
 
   -- the walk is counted
-  pub counted : p.code ≡ 0 → (n : ℕ) → n ≡ keys_from (length image) p.walk image → n ≡ keys_above image
-  unfolding keys_above pick
-  counted z n h = rw (← e, eq-eqb p.code 0 z) h
+  pub counted : ((d : Decline) → p.declined ≡ Some d → ⊥) → (n : ℕ) → n ≡ keys_from (length image) p.walk image → n ≡ keys_above image
+  unfolding keys_above
+  counted h n f = rw (← e) (f ∙ all_if p.declined h _)

@@ -1,14 +1,21 @@
 -- What the timed loops count, over any bytes.
-use Rattle.std.specs.Prelude.{◌+◌}
-use Rattle.base.specs.Kit.{not, List, [], ℕ, zero, suc, eqb, length, take, drop}
+use Rattle.std.specs.Prelude.{◌≡◌, ◌+◌, Option, None, Some}
+use Rattle.std.specs.Borrow.{Bor}
+use Rattle.base.specs.Kit.{List, [], ℕ, zero, suc, eqb, length, take, drop}
 use Rattle.base.specs.Pick.{pick}
+use Rattle.base.specs.declared.Decline.{Decline}
 use Rattle.cursor.specs.RangeBound.{contains}
 use Rattle.cursor.specs.declared.range_bound.StartMode.TheVariants.{Above}
 use Rattle.walk.specs.Walk.{keys_of}
 use Rattle.walk.specs.Placing.{place}
 use Rattle.scan.specs.Machine.{step}
 use Rattle.walk.specs.declared.scan_state.Walk.{Walk}
-use Rattle.walk.specs.declared.scan_state.Answer.{Answer}
+use Rattle.walk.specs.Types.{Answer}
+use Rattle.walk.specs.declared.scan_state.Stepped.{Stepped}
+
+-- A form of the step: whatever it may return of a walk and an image is the step's.
+abbrev pub IsStep : (Walk → Bor (List ℕ) → Stepped → Type 0) → Type 0
+IsStep P = (w : Walk) (image : Bor (List ℕ)) (s : Stepped) → P w image s → s ≡ step w image.now
 
 -- One more than the rest where a key is out; no more where none is.
 unfoldable pub count_key : Answer → ℕ → ℕ
@@ -22,12 +29,17 @@ keys_from (suc n) w image =
     let rest = keys_from n s.walk image in
     count_key s.answer rest
 
+-- n, and 0 where something is declined
+abbrev pub none_if : Option Decline → ℕ → ℕ
+none_if None n = n
+none_if (Some d) n = 0
+
 -- The same of a walk above the empty cursor, unbounded, and of as many steps as the image has bytes; 0 where the placing is
 -- declined.
 unfoldable pub keys_above : List ℕ → ℕ
 keys_above image =
     let p = place image Above [] 0 [] in
-    pick (not (eqb p.code 0)) 0 (keys_from (length image) p.walk image)
+    none_if p.declined (keys_from (length image) p.walk image)
 
 -- How many of the first n names the bound admits, each a row of so many bytes.
 unfoldable pub rows_within : ℕ → ℕ → ℕ → List ℕ → List ℕ → ℕ

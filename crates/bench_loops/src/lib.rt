@@ -1,7 +1,7 @@
 // What bench/ times of the walk: loops over whole images, each with an export for C. Nothing else calls them.
 //
-// Interface: `timed_walk`, `timed_count` and `timed_bound`, which take anything and have no `requires`. The two forms of the step have a loop
-// each: a choice inside one loop would copy every step's answer once more, and be timed with it.
+// Interface: `timed_walk`, `timed_count` and `timed_bound`, which take anything and have no `requires`. The two forms of the step have one
+// generic loop: a choice inside a loop would copy every step's answer once more, and be timed with it.
 #![tactic(auto)]
 
 ghost use Rattle.std.specs.Prelude.{◌≡◌, ◌/◌};
@@ -9,11 +9,11 @@ ghost use Rattle.base.specs.Kit.{[], length};
 ghost use Rattle.cursor.specs.declared.range_bound.StartMode.TheVariants.{Above};
 ghost use Rattle.walk.specs.Placing.{place};
 ghost use Rattle.scan.specs.CodeLoop.{keys_left};
-ghost use Rattle.bench_loops.specs.CodeCounting.{keys_from, keys_above, rows_within};
+ghost use Rattle.bench_loops.specs.CodeCounting.{IsStep, keys_from, keys_above, rows_within};
 
 use cursor::range_bound;
 use cursor::range_bound::StartMode;
-use walk::scan_state::{Answer, Placed, Walk};
+use walk::scan_state::{Placed, Stepped, Walk};
 
 // A walk above the empty cursor, unbounded.
 fn place_all(image: &[u8]) -> Placed
@@ -29,13 +29,15 @@ pub extern "C" fn timed_walk(image: &[u8], form: u8) -> u64
     ensures { result ≡ keys_above image.now }
 {
     let placed = place_all(image);
-    if placed.code != 0 {
+    if let Some(_) = placed.declined {
         return 0;
     }
-    if form == 0 {
-        return by_value(placed.walk, image) as u64;
-    }
-    by_lent(placed.walk, image) as u64
+    let keys = if form == 0 {
+        keys_by(scan::step::step, placed.walk, image)
+    } else {
+        keys_by(lent::step_over, placed.walk, image)
+    };
+    keys as u64
 }
 
 // The keys of a walk above the empty cursor, by the tally's loop: one call for all moves.
@@ -55,64 +57,27 @@ pub extern "C" fn timed_bound(names: &[u8], width: usize, kind: u8, bound: &[u8]
     if width == 0 {
         return 0;
     }
-    let rows = names.len() / width;
     let mut count = 0;
-    let mut row = 0;
-    let mut at = 0;
-    while row < rows {
-        count += range_bound::contains(kind, bound, key::part_of(names, at, width)) as usize;
-        row += 1;
-        at += width;
+    for name in names.chunks_exact(width) {
+        count += u64::from(range_bound::contains(kind, bound, name));
     }
-    count as u64
+    count
 }
 
 // The keys that steps of a walk hand out before the first answer that is no key, of as many steps as the image has bytes.
-fn by_value(walk: Walk, image: &[u8]) -> usize
-    ensures { result ≡ keys_from (length image.now) walk image.now }
+fn keys_by<F: Fn(Walk, &[u8]) -> Stepped>(step: F, start: Walk, image: &[u8]) -> usize
+    requires callable { F.IsAlwaysCallable step }
+    requires steps { IsStep (F.post step) }
+    ensures { result ≡ keys_from (length image.now) start image.now }
 {
-    let mut at = walk;
-    let mut count = 0;
-    while count < image.len() {
-        let s = scan::step::step(at, image);
-        let answer = s.answer;
-        match answer {
-            Answer::Key { len: _, value: _ } => {
-                at = s.walk;
-                count += 1;
-            }
-            Answer::Nothing => {
-                return count;
-            }
-            Answer::Declined(_) => {
-                return count;
-            }
+    let mut walk = start;
+    for count in 0..image.len() {
+        let stepped = step(walk, image);
+        match stepped.answer {
+            Ok(Some(_)) => walk = stepped.walk,
+            Ok(None) => return count,
+            Err(_) => return count,
         }
     }
-    count
-}
-
-// The same by the lent step.
-fn by_lent(walk: Walk, image: &[u8]) -> usize
-    ensures { result ≡ keys_from (length image.now) walk image.now }
-{
-    let mut at = walk;
-    let mut count = 0;
-    while count < image.len() {
-        let s = lent::step_over(at, image);
-        let answer = s.answer;
-        match answer {
-            Answer::Key { len: _, value: _ } => {
-                at = s.walk;
-                count += 1;
-            }
-            Answer::Nothing => {
-                return count;
-            }
-            Answer::Declined(_) => {
-                return count;
-            }
-        }
-    }
-    count
+    image.len()
 }

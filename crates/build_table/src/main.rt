@@ -4,146 +4,106 @@
 // check says of it. In form 1 the image's bytes follow in hex, and its sheet.
 #![tactic(auto)]
 
-use builder::Built;
+use base::Decline;
 use key::first;
-use node::le;
-use requests::{item, line, put};
-use std::io::Read;
-use verify::Checked;
+use requests::{Request, Requests};
+use std::{fmt, io};
+use verify::Counts;
 
-// The requests: more than there are.
-const MOST: usize = 1000;
-
-// A request's form in which the image is shown whole.
+// A request's form in which the image is shown whole. One test of one number: an enum would be no plainer.
 const WHOLE: u8 = 1;
 
 // What the output's bytes are before.
 const MARK: u8 = 165;
 
-// Sets all bytes to the mark.
-fn set_marks(out: &mut [u8]) {
-    for b in out.iter_mut() {
-        *b = MARK;
-    }
-}
-
-fn wide(x: u8) -> u64 {
-    x as u64
-}
-
-// A number times FNV's prime, 2^40 + 435, with wrap.
-fn times_prime(h: u64) -> u64 {
-    let low = h % 4294967296 * 435;
-    let high = h / 4294967296 * 435 % 4294967296 * 4294967296;
-    let all = std::num::wrapping_add_u64(low, high);
-    std::num::wrapping_add_u64(all, h % 16777216 * 1099511627776)
-}
+// The longest output: an image of 3,841 keys of two bytes has room.
+const LONGEST: usize = 131072;
 
 // 64-bit FNV-1a.
 fn fnv(bytes: &[u8]) -> u64 {
-    let mut h: u64 = 14695981039346656037;
-    for b in bytes {
-        h = times_prime(h ^ wide(*b));
-    }
-    h
+    bytes.iter().fold(0xcbf29ce484222325, |hash: u64, byte| {
+        (hash ^ u64::from(*byte)).wrapping_mul(0x100000001b3)
+    })
 }
 
-// Bytes in hex, on a line.
-fn put_bytes(rt: &impl Print, bytes: &[u8]) {
-    for b in bytes {
-        let x = *b;
-        let _ = print!(rt; "{x:02x}");
-    }
-    put(rt, b"\n");
-}
+// Bytes in hex.
+#[derive(Drop)]
+struct Hex<'a>(&'a [u8]);
 
-// The front of a request's line.
-fn answer(rt: &impl Print, name: &[u8], number: u64, len: usize, out: &[u8]) {
-    put(rt, name);
-    item(rt, b" ", number);
-    item(rt, b" ", len as u64);
-    put(rt, b" ");
-    let x = fnv(out);
-    let _ = print!(rt; "{x:016x}");
+impl fmt::Display for Hex<'_> {
+    fn fmt<W: fmt::Write>(&self, f: &mut fmt::Formatter<W>) -> fmt::Result {
+        for byte in self.0 {
+            write!(f, "{byte:02x}")?;
+        }
+        Ok(())
+    }
 }
 
 // What the check says of an image.
-fn check(rt: &impl Print, image: &[u8]) {
-    let checked = verify::check_image(image);
-    match checked {
-        Checked::Accepted {
-            leaves,
-            value_slots,
-            sub_layers,
-        } => {
-            item(rt, b" accepted ", leaves as u64);
-            item(rt, b" ", value_slots as u64);
-            line(rt, b"", b" ", sub_layers);
+#[derive(Drop)]
+struct Verdict(Result<Counts, Decline>);
+
+impl fmt::Display for Verdict {
+    fn fmt<W: fmt::Write>(&self, f: &mut fmt::Formatter<W>) -> fmt::Result {
+        match self.0 {
+            Ok(
+                Counts {
+                    leaves,
+                    value_slots,
+                    sub_layers,
+                },
+            ) => write!(f, "accepted {leaves} {value_slots} {sub_layers}"),
+            Err(decline) => write!(f, "refused {}", u8::from(decline)),
         }
-        Checked::Declined(n) => line(rt, b"", b" refused ", n as usize),
     }
 }
 
-// A request's lines, with output of so many bytes.
-fn request(rt: &impl Print, name: &[u8], form: u8, sheet: &[u8], out: &mut [u8]) {
-    set_marks(out);
-    let built = builder::build(sheet, out);
-    match built {
-        Built::Image(n) => {
-            answer(rt, name, 0, n, out);
+// A request's lines, with an output whose bytes are marks.
+fn lines(rt: &impl Print, request: &Request, out: &mut [u8]) -> io::Result<()> {
+    let name = request.name.as_str();
+    match builder::build(&request.image, out) {
+        Ok(n) => {
+            let hash = fnv(out);
             let image = first(out, n);
-            check(rt, image);
-            if form == WHOLE {
-                put_bytes(rt, image);
+            let verdict = Verdict(verify::check_image(image));
+            println!(rt; "{name} 0 {n} {hash:016x} {verdict}")?;
+            if request.form == WHOLE {
+                println!(rt; "{}", Hex(image))?;
                 sheet_out::put_sheet(rt, image);
             }
+            Ok(())
         }
-        Built::Declined(number) => {
-            answer(rt, name, number, 0, out);
-            put(rt, b"\n");
-        }
-    }
-}
-
-// The number in four bytes; 0 where there are not so many.
-fn number(bytes: &[u8]) -> usize {
-    if bytes.len() < 4 {
-        return 0;
-    }
-    le::u32_at(bytes, 0) as usize
-}
-
-// Reads one request and prints its lines; false at the end of the input, or where there is no such output.
-fn one(rt: &impl Print, input: &mut impl Read, sheet: &mut [u8], space: &mut [u8]) -> bool {
-    let r = requests::read_request(input, sheet);
-    let name = r.name;
-    let cursor = r.cursor;
-    let room = number(&cursor);
-    if !r.more || space.len() < room {
-        return false;
-    }
-    request(
-        rt,
-        first(&name, r.name_len),
-        r.form,
-        first(sheet, r.image_len),
-        &mut space[0..room],
-    );
-    true
-}
-
-fn all(rt: &impl Print, input: &mut impl Read, sheet: &mut [u8], space: &mut [u8]) {
-    for _ in 0..MOST {
-        if !one(rt, input, sheet, space) {
-            return;
+        Err(decline) => {
+            let number = u8::from(decline);
+            let hash = fnv(out);
+            println!(rt; "{name} {number} 0 {hash:016x}")
         }
     }
 }
 
-// The longest output: an image of 3,841 keys of two bytes has room.
+// The output's length, in the first four bytes of the cursor; none where that is too long.
+fn room(request: &Request) -> Option<usize> {
+    let mut bytes = [0u8; 4];
+    let n = request.cursor.len().min(4);
+    bytes[..n].copy_from_slice(&request.cursor[..n]);
+    let room = u32::from_le_bytes(bytes) as usize;
+    (room <= LONGEST).then_some(room)
+}
+
+// The requests up to the first that has no such output.
+fn run(rt: &(impl Input + Print + AllocGlobal)) -> io::Result<()> {
+    for request in Requests::new(rt.alloc(), rt.reader()) {
+        let request = request?;
+        let Some(room) = room(&request) else {
+            break;
+        };
+        let mut out = vec![in rt.alloc(); MARK; room]?;
+        lines(rt, &request, &mut out)?;
+    }
+    Ok(())
+}
+
+// An output that fails is passed over.
 fn main(rt: HostRuntime) {
-    let mut input = rt.reader();
-    let mut sheet = [0u8; 65536];
-    let mut space = [0u8; 131072];
-    all(&rt, &mut input, &mut sheet, &mut space);
+    let _ = run(&rt);
 }

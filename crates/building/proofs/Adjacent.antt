@@ -2,7 +2,7 @@
 use Rattle.std.specs.Prelude.{◌≡◌, ◌∷◌}
 use Rattle.base.specs.Kit.{List, []}
 use Rattle.key.specs.Order.{byte_order}
-use Rattle.key.specs.declared.Ordering.TheVariants.{Less}
+use Rattle.std.specs.declared.cmp.Ordering.TheVariants.{Less}
 use Rattle.key.proofs.Order.{lex_trans, lex_cmp, cmp_less}
 use Rattle.layering.specs.Keys.{Pair}
 use Rattle.layering.specs.Ascending.{Ascending}

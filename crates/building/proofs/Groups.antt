@@ -4,7 +4,7 @@ use Rattle.std.specs.Prelude.{◌≢◌, ◌≡◌, ◌∷◌, ◌++◌, ◌+◌
 use Rattle.base.specs.Kit.{Bool, true, false, inl, inr, refl, ap, ap₂, sym, ◌∙◌, subst, List, [], map, flatten, append_assoc, append-nil, ℕ, suc, min, arith, leb, eqb, length, take, drop, length-drop, take-append-drop, leb-true, leb-false, eqb-true, eqb-false, ne_eqb}
 use Rattle.base.specs.Pick.{pick}
 use Rattle.key.specs.Order.{byte_order}
-use Rattle.key.specs.declared.Ordering.TheVariants.{Less}
+use Rattle.std.specs.declared.cmp.Ordering.TheVariants.{Less}
 use Rattle.key.specs.Ikey.{ikey_of, ikey_bytes}
 use Rattle.key.proofs.Bytes.{Bytes, bytes_drop}
 use Rattle.building.proofs.ByteLaws.{ikey_of-lt}

@@ -3,7 +3,7 @@
 use Rattle.std.specs.Prelude.{◌≡◌, ◌≤◌, ◌<◌}
 use Rattle.base.specs.Kit.{ap, sym, ◌∙◌, subst, List, ℕ, arith, length, get_or, take, drop, length-take, List·getD-eq-default, take-take, get_or-take, length-take-le, dec_lt, take-append-drop}
 use Rattle.key.specs.Order.{byte_order}
-use Rattle.key.specs.declared.Ordering.TheVariants.{Less}
+use Rattle.std.specs.declared.cmp.Ordering.TheVariants.{Less}
 use Rattle.key.specs.Ikey.{be, ikey_of, ikey_bytes}
 use Rattle.key.specs.Part.{padded}
 use Rattle.key.proofs.Bytes.{Bytes, bytes_take}

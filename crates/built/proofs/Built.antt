@@ -1,5 +1,5 @@
 -- THE THEOREMS of 02 [2] about the definition.
-use Rattle.std.specs.Prelude.{◌≡◌, ◌∷◌, ◌+◌, ◌*◌, ◌≤◌, ◌<◌}
+use Rattle.std.specs.Prelude.{◌≡◌, ◌∷◌, ◌+◌, ◌*◌, ◌≤◌, ◌<◌, Ok}
 use Rattle.base.specs.Kit.{ap, ◌∙◌, List, [], ℕ, arith, length, get_or}
 use Rattle.cursor.specs.declared.range_bound.StartMode.TheVariants.{From}
 use Rattle.key.proofs.Bytes.{bytes_of}
@@ -17,7 +17,7 @@ use Rattle.demands.proofs.Demand.{demand-3, is-taken}
 use Rattle.listed.specs.Listed.{walk_moves, listed}
 use Rattle.reading.specs.Form.{Sheet, text}
 use Rattle.reading.specs.Good.{GoodPair}
-use Rattle.reading.specs.Fault.{sheet, read_sheet}
+use Rattle.reading.specs.Fault.{read_sheet}
 use Rattle.reading.proofs.Sheets.{read-text}
 use Rattle.reading.proofs.Rising.{rise_ascending}
 use Rattle.building.specs.Shape.{shape}
@@ -63,8 +63,8 @@ module _ (ps : List Pair) (asc : Ascending ps) (fine : All Fine ps) (short : len
   pub build-listed : listed (build ps) ≡ text (record { pairs = ps; figure = walk_moves (build ps) })
   build-listed = listed-text (build ps) accepted ∙ ap text says
 
-  pub build-reads : read_sheet (listed (build ps)) ≡ sheet (record { pairs = ps; figure = walk_moves (build ps) })
-  build-reads = listed-reads (build ps) accepted bytes ∙ ap sheet says
+  pub build-reads : read_sheet (listed (build ps)) ≡ Ok (record { pairs = ps; figure = walk_moves (build ps) })
+  build-reads = listed-reads (build ps) accepted bytes ∙ ap Ok says
 
   pub build-holds : Holds (build ps) ps
   build-holds = record {
@@ -87,7 +87,7 @@ sheet_fine (x ∷ l) g s = (
   sheet_fine l g.1 s.1,
 )
 
-pub taken-sheet : (s : List ℕ) (x : Sheet) → read_sheet s ≡ sheet x → length (build x.pairs) ≤ 16777216 → Taken s x
+pub taken-sheet : (s : List ℕ) (x : Sheet) → read_sheet s ≡ Ok x → length (build x.pairs) ≤ 16777216 → Taken s x
 taken-sheet s x r short =
     let t = read-text s x r in
     let a = rise_ascending x.pairs t.rise in

@@ -1,5 +1,5 @@
 -- THE SHEET OF AN ACCEPTED IMAGE says its live pairs and its walk's moves, and is read as that.
-use Rattle.std.specs.Prelude.{◌≡◌, ◌+◌, ◌^◌, ◌<◌}
+use Rattle.std.specs.Prelude.{◌≡◌, ◌+◌, ◌^◌, ◌<◌, Ok}
 use Rattle.base.specs.Kit.{ap, ◌∙◌, List, [], ℕ, arith, length, get_or}
 use Rattle.base.specs.Pick.{pick}
 use Rattle.cursor.specs.declared.range_bound.StartMode.TheVariants.{From}
@@ -20,7 +20,7 @@ use Rattle.listed.specs.Listed.{listed_pairs, walk_moves, listed}
 use Rattle.listed.proofs.Counted.{count-is-lines}
 use Rattle.reading.specs.Form.{text}
 use Rattle.reading.specs.Good.{GoodPair, Good}
-use Rattle.reading.specs.Fault.{sheet, judged, read_sheet}
+use Rattle.reading.specs.Fault.{judged, read_sheet}
 use Rattle.reading.proofs.Sheets.{text_read}
 use Rattle.building.proofs.ByteLaws.{bytes-at}
 use Rattle.building.proofs.Theorem.{Fine}
@@ -56,7 +56,7 @@ module _ (image : List ℕ) (a : check_number (check image) ≡ 0) where
           figure = moves-small;
         }
 
-    pub listed-reads : read_sheet (listed image) ≡ sheet (sheet_of image)
+    pub listed-reads : read_sheet (listed image) ≡ Ok (sheet_of image)
     unfolding judged pick sheet_of
     listed-reads =
         let o = (accepted_obeys image a).0 in

@@ -5,7 +5,7 @@ use Rattle.base.specs.Kit.{refl, subst, true, List, [], ℕ, length, get_or, le-
 use Rattle.base.proofs.Choice.{pick_ind}
 use Rattle.key.specs.Ikey.{ikey_bytes}
 use Rattle.key.specs.Order.{byte_order}
-use Rattle.key.specs.declared.Ordering.TheVariants.{Less}
+use Rattle.std.specs.declared.cmp.Ordering.TheVariants.{Less}
 use Rattle.key.proofs.Bytes.{Bytes}
 use Rattle.node.specs.Le.{u64_at}
 use Rattle.node.specs.Layout.{child_at, root_offset}
@@ -18,7 +18,7 @@ use Rattle.layering.proofs.Flat.{flat_n}
 use Rattle.layering.proofs.Held.{HeldN, HeldK, HeldS, held}
 use Rattle.layering.proofs.Real.{le-lt}
 use Rattle.layering.proofs.Pairs.{row-pairs, obeys-row, pairs-short}
-use Rattle.reading.specs.Fault.{is_less, rise_above, keys_rise}
+use Rattle.reading.specs.Fault.{rise_above, keys_rise}
 use Rattle.building.proofs.Theorem.{Fine}
 
 -- A value below 2^64.
@@ -73,7 +73,7 @@ module _ (image : List ℕ) (b : (i : ℕ) → get_or image i 0 < 256) where
 
 -- Fine pairs that ascend rise as a sheet's do.
 rise-behind : (j : List ℕ) (l : List Pair) → All (λ (y : Pair). byte_order j y.key ≡ Less) l → Ascending l → All Fine l → rise_above j l ≡ true
-unfolding rise_above is_less Ascending
+unfolding rise_above Ascending
 rise-behind j [] h a f = refl
 rise-behind j (x ∷ l) h a f = rw (le-leb (length x.key) 256 f.0.short, h.0) (rise-behind x.key l a.0 a.1 f.1)
 

@@ -1,5 +1,5 @@
 -- WHAT 02 [2] PROMISES of the image that is built from a sheet: "The check accepts the result, and walking from "" gives the sheet's pairs."
-use Rattle.std.specs.Prelude.{◌≡◌, ◌+◌, ◌*◌, ◌≤◌, ◌<◌}
+use Rattle.std.specs.Prelude.{◌≡◌, ◌+◌, ◌*◌, ◌≤◌, ◌<◌, Ok}
 use Rattle.base.specs.Kit.{List, [], ℕ, length, get_or}
 use Rattle.cursor.specs.declared.range_bound.StartMode.{StartMode}
 use Rattle.cursor.specs.declared.range_bound.StartMode.TheVariants.{From}
@@ -10,7 +10,7 @@ use Rattle.walk.specs.Placing.{place}
 use Rattle.demands.specs.Demand.{Call, steps, Lent, said, moves_of, own, due}
 use Rattle.listed.specs.Listed.{walk_moves, listed}
 use Rattle.reading.specs.Form.{Sheet, text}
-use Rattle.reading.specs.Fault.{sheet, read_sheet}
+use Rattle.reading.specs.Fault.{read_sheet}
 use Rattle.building.specs.Shape.{shape}
 use Rattle.building.specs.Build.{build}
 use Rattle.building.specs.CodeWritten.{put}
@@ -35,7 +35,7 @@ pub record Holds (image : List ℕ) (ps : List Pair) : Type 0 where
       → moves_of (steps (place image From [] 0 []).walk calls) ≤ leaves_n (shape ps) + length ps + 4 * layers_n (shape ps) + 2
   -- its sheet has a station line for each of these and their count, with its own walk's moves on the end line; and is read as that
   pub lines : listed image ≡ text (record { pairs = ps; figure = walk_moves image })
-  pub reads : read_sheet (listed image) ≡ sheet (record { pairs = ps; figure = walk_moves image })
+  pub reads : read_sheet (listed image) ≡ Ok (record { pairs = ps; figure = walk_moves image })
 
 -- A SHEET THAT IS TAKEN: s is the text of x, and the image built from its pairs holds these. So the image's sheet has the lines of s, but
 -- for the figure on the end line, which "is read and not used".
@@ -46,14 +46,14 @@ pub record Taken (s : List ℕ) (x : Sheet) : Type 0 where
 -- AN IMAGE BUILT ANEW from the live pairs of another, which are those of its sheet: it holds them, and a walk over either hands out the same
 -- from every start to every bound.
 pub record Rebuilt (image : List ℕ) : Type 0 where
-  pub reads : read_sheet (listed image) ≡ sheet (sheet_of image)
+  pub reads : read_sheet (listed image) ≡ Ok (sheet_of image)
   pub holds : Holds (build (live_pairs image)) (live_pairs image)
   pub rows : (mode : StartMode) (cursor : List ℕ) (kind : ℕ) (bound : List ℕ)
       → row_of (build (live_pairs image)) mode cursor kind bound ≡ row_of image mode cursor kind bound
 
 -- WHAT `build` WRITES of a sheet that it takes, into the output `out`: the image, and behind it what stood there.
 pub record Writes (s out : List ℕ) (x : Sheet) : Type 0 where
-  pub is : read_sheet s ≡ sheet x
+  pub is : read_sheet s ≡ Ok x
   pub taken : Taken s x
   pub length-is : built_length (built s (length out)) ≡ length (build x.pairs)
   pub output : built_out s out ≡ put out 0 (build x.pairs)

@@ -1,7 +1,7 @@
 -- THE THEOREM `c-demand-3`: demand 3 over the functions that C calls, for every list of calls of `pb_step` on a record that `pb_place_above`
 -- or `pb_place_from` filled. The idea of the proof: the record reads back as the walk that was placed, each call leaves a record that reads
 -- back as the walk after a step (proofs/Calls.antt), and demand 3 speaks of those steps.
-use Rattle.std.specs.Prelude.{◌≡◌, ◌+◌, ◌*◌, ◌≤◌, ◌<◌}
+use Rattle.std.specs.Prelude.{◌≡◌, ◌+◌, ◌*◌, ◌≤◌, ◌<◌, None}
 use Rattle.base.specs.Kit.{ap, sym, ◌∙◌, Bool, true, List, ℕ, arith, length, get_or}
 use Rattle.base.specs.Pick.{pick}
 use Rattle.base.proofs.Choice.{by_test}
@@ -12,6 +12,7 @@ use Rattle.walk.specs.Placing.{place}
 use Rattle.walk_record.specs.Record.{numbers_of}
 use Rattle.demands.specs.Demand.{due}
 use Rattle.demands.specs.HandedOut.{due_handed}
+use Rattle.walk.proofs.PlaceLaws.{declined-none, none-code}
 use Rattle.demands.proofs.Demand.{demand-3, is-taken}
 use Rattle.demands.proofs.HandedOut.{carried-due}
 use Rattle.punchbronze.specs.Interface.{fitting, placed_number, placed_numbers, placed_buf, placed_bound, PutPlaced}
@@ -28,9 +29,9 @@ module _ (p : Placed) (numbers buf bound numbers' buf' bound' : List ℕ) (put :
       by_test (fitting numbers buf bound) (λ t. t)
       (λ f. absurd (let z : ◌≡◌ {A = ℕ} 0 21 = rw f at put.number in omega arith))
 
-  code_is : p.code ≡ 0
+  not-declined : p.declined ≡ None
   unfolding placed_number pick
-  code_is = sym (rw fits at put.number)
+  not-declined = declined-none p (sym (rw fits at put.number))
 
   numbers_are : numbers' ≡ numbers_of p.walk
   unfolding placed_numbers pick
@@ -53,7 +54,7 @@ pub c-demand-3 : (image : List ℕ) → ((i : ℕ) → get_or image i 0 < 256) �
 c-demand-3 image b a mode cursor bc kind key numbers buf bound numbers' buf' bound' put calls l =
     let p = place image mode cursor kind key in
     let d =
-    demand-3 image b a mode cursor bc kind key (code_is p numbers buf bound numbers' buf' bound' put) (as_steps image calls) (lent_all image calls l) in
+    demand-3 image b a mode cursor bc kind key (not-declined p numbers buf bound numbers' buf' bound' put) (as_steps image calls) (lent_all image calls l) in
     let kept = place_keeps image mode cursor kind key in
     let f = follow_all image p.walk.bound.key calls (numbers_of p.walk) p.walk.cursor.buf kept.0 (rw kept.1 d.foreign) in
     rw (
@@ -76,9 +77,9 @@ pub c-carried-due : (image : List ℕ) → ((i : ℕ) → get_or image i 0 < 256
     → c_handed (c_steps numbers' buf' bound' calls) ≡ due_handed image (made image calls) (row_of image mode cursor kind key) nothing_yet
 c-carried-due image b a mode cursor bc kind key numbers buf bound numbers' buf' bound' put calls l =
     let p = place image mode cursor kind key in
-    let code = code_is p numbers buf bound numbers' buf' bound' put in
-    let d = demand-3 image b a mode cursor bc kind key code (as_steps image calls) (lent_all image calls l) in
-    let due = carried-due image b a mode cursor bc kind key code (as_steps image calls) (lent_all image calls l) in
+    let taken = not-declined p numbers buf bound numbers' buf' bound' put in
+    let d = demand-3 image b a mode cursor bc kind key taken (as_steps image calls) (lent_all image calls l) in
+    let due = carried-due image b a mode cursor bc kind key taken (as_steps image calls) (lent_all image calls l) in
     let kept = place_keeps image mode cursor kind key in
     let f = follow_all image p.walk.bound.key calls (numbers_of p.walk) p.walk.cursor.buf kept.0 (rw kept.1 d.foreign) in
     rw (
@@ -102,4 +103,4 @@ pub is_placed : (image : List ℕ) → check_number (check image) ≡ 0 → (mod
     → fitting numbers buf bound ≡ true → length cursor ≤ 256 → kind ≤ 2 → length key ≤ 256
     → placed_number (place image mode cursor kind key) numbers buf bound ≡ 0
 unfolding placed_number pick
-is_placed image a mode cursor kind key numbers buf bound s c k h = rw s (is-taken image a mode cursor kind key c k h)
+is_placed image a mode cursor kind key numbers buf bound s c k h = rw s (none-code _ (is-taken image a mode cursor kind key c k h))

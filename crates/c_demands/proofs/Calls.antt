@@ -1,7 +1,7 @@
 -- Calls of `pb_step` follow steps of the walk that the record reads back as. Proved: what a call that meets its contract leaves is `c_step`'s;
 -- that what a list of calls says, costs and carries is what the steps say, cost and carry; and that the calls that step no walk change nothing. A call with
 -- no room for the answer follows a step that is lent another length.
-use Rattle.std.specs.Prelude.{◌≡◌, ◌∷◌, ◌⊎◌, ◌+◌}
+use Rattle.std.specs.Prelude.{◌≡◌, ◌∷◌, ◌⊎◌, ◌+◌, Some, None, Ok, Err}
 use Rattle.base.specs.Kit.{refl, ap, ap₂, sym, ◌∙◌, Bool, true, false, not, and-true, and-false, List, [], inr, ℕ, arith, eqb, length, take, replicate, eqb-true, eqb-false, eq-eqb, ne_eqb}
 use Rattle.base.specs.Pick.{pick}
 use Rattle.base.proofs.Choice.{pick_ind, by_test}
@@ -14,7 +14,7 @@ use Rattle.record_step.proofs.Kept.{step_keeps}
 use Rattle.demands.specs.Demand.{Call, steps, Lent, said_by, said, moves_of, own, Foreign}
 use Rattle.demands.specs.HandedOut.{handed_by}
 use Rattle.punchbronze.specs.Interface.{said_numbers, out_after, StepLeft}
-use Rattle.c_demands.specs.Types.{Answer, Key, Nothing, Declined, Stepped, Walk}
+use Rattle.c_demands.specs.Types.{Answer, Stepped, Walk}
 use Rattle.c_demands.specs.CDemand.{CCall, CLeft, c_step, c_steps, Kept, CLent, is_made, made, c_said_by, c_said, c_moves_by, c_moves_of, c_handed_by, c_handed, Untouched, CForeign}
 
 -- A declined step has made no move, its walk is as it came, and it carries zeros.
@@ -23,9 +23,9 @@ Stays w s = (number_of s.answer ≡ 0 → ⊥) → (s.moves ≡ 0) × (s.walk �
 
 stays_by : (w : Walk) (a : Answer) (last : Bool) (moves : ℕ) (s : Scan) → Stays w (stepped w a last moves s)
 unfolding number_of
-stays_by w (Key len value) last moves s h = absurd (h refl)
-stays_by w Nothing last moves s h = absurd (h refl)
-stays_by w (Declined n) last moves s h = (refl, refl, refl)
+stays_by w (Ok (Some key)) last moves s h = absurd (h refl)
+stays_by w (Ok None) last moves s h = absurd (h refl)
+stays_by w (Err d) last moves s h = (refl, refl, refl)
 
 stays : (w : Walk) (image : List ℕ) → Stays w (step w image)
 unfolding step advance finished number_of

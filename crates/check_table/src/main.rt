@@ -2,21 +2,23 @@
 // one fault.
 #![tactic(auto)]
 
+use base::Decline;
 use node::trailer;
-use requests::{item, put};
+use std::io;
 
-// What the length test says of a length.
-fn length(rt: &impl Print, n: usize) {
-    item(rt, b"length ", n as u64);
-    if trailer::is_length_ok(n) {
-        put(rt, b" passes\n");
-    } else {
-        put(rt, b" declined 1\n");
+// What the length test says of the longest length, and of the next.
+fn lengths(rt: &impl Print) -> io::Result<()> {
+    for n in [16777216, 16777224] {
+        if trailer::is_length_ok(n) {
+            println!(rt; "length {n} passes")?;
+        } else {
+            println!(rt; "length {n} declined {}", u8::from(Decline::ImageLength))?;
+        }
     }
+    Ok(())
 }
 
 fn main(rt: HostRuntime) {
-    length(&rt, 16777216);
-    length(&rt, 16777224);
+    let _ = lengths(&rt);
     runner::run(&rt);
 }

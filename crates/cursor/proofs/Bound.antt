@@ -5,7 +5,7 @@ use Rattle.base.specs.Pick.{pick}
 use Rattle.base.proofs.Choice.{pick-map, pick_ind}
 use Rattle.key.specs.Order.{byte_order}
 use Rattle.key.specs.Comparisons.{compared, compared_by}
-use Rattle.key.specs.declared.Ordering.{Ordering}
+use Rattle.std.specs.declared.cmp.Ordering.{Ordering}
 use Rattle.key.proofs.Order.{CmpB, b_lt, b-eq, b_gt, cmpb, cmp-refl}
 use Rattle.cursor.specs.RangeBound.{side_of, tested, is_within, is_last, contains, at_end}
 use Rattle.cursor.specs.declared.range_bound.Side.{Side}

@@ -4,7 +4,7 @@ use Rattle.std.specs.Prelude.{◌≡◌, ◌<◌}
 use Rattle.base.specs.Kit.{List, ℕ, arith, lt-leb, le-ltb}
 use Rattle.base.specs.Pick.{pick}
 use Rattle.key.specs.Order.{order, then}
-use Rattle.key.specs.declared.Ordering.TheVariants.{Equal}
+use Rattle.std.specs.declared.cmp.Ordering.TheVariants.{Equal}
 use Rattle.cursor.specs.CursorKey.{unshift, compare_slot}
 use Rattle.cursor.specs.declared.cursor_key.CursorPlace.{CursorPlace}
 

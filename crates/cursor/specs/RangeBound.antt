@@ -3,8 +3,8 @@ use Rattle.base.specs.Kit.{Bool, true, false, List, ℕ, eqb, length, replicate}
 use Rattle.base.specs.Pick.{pick}
 use Rattle.key.specs.Comparisons.{compared}
 use Rattle.key.specs.Part.{padded}
-use Rattle.key.specs.declared.Ordering.{Ordering}
-use Rattle.key.specs.declared.Ordering.TheVariants.{Less, Equal, Greater}
+use Rattle.std.specs.declared.cmp.Ordering.{Ordering}
+use Rattle.std.specs.declared.cmp.Ordering.TheVariants.{Less, Equal, Greater}
 use Rattle.cursor.specs.declared.range_bound.RangeBound.{RangeBound}
 use Rattle.cursor.specs.declared.range_bound.Side.{Side}
 use Rattle.cursor.specs.declared.range_bound.Side.TheVariants.{Inside, AtEnd, Past}

@@ -7,13 +7,13 @@ ghost use Rattle.base.specs.Kit.{length};
 ghost use Rattle.key.specs.Order.{byte_order};
 ghost use Rattle.cursor.specs.CursorKey.{from_slice, shift_clear, shift, unshift, has_suffix, suffix_of, compare_slot, store_ikey, with_ikey, with_length, store_suffix};
 
-use key::Ordering;
+use std::cmp::Ordering;
 
 // The length that `unshift` sets: one more than an ikey has, so that the cursor stands past the layer's slot.
 pub const UNSHIFT_SENTINEL_LEN: usize = 9;
 
 // The cursor as a walk keeps it.
-#[derive(Clone, Copy)]
+#[derive(Clone, Copy, Debug, PartialEq, Eq)]
 pub struct CursorKey {
     pub buf: [u8; 256],
     pub offset: usize,
@@ -22,7 +22,7 @@ pub struct CursorKey {
 }
 
 // The cursor without its buffer: where the layer's ikey stands in it, the key's length from there on, and the ikey.
-#[derive(Clone, Copy)]
+#[derive(Clone, Copy, Debug, PartialEq, Eq)]
 pub struct CursorPlace {
     pub offset: usize,
     pub len: usize,
@@ -30,6 +30,7 @@ pub struct CursorPlace {
 }
 
 // A cursor at the root layer that holds `key`, zero-filled.
+#[tactic(auto, unfolding(crate::specs::CursorKey::from_slice))]
 pub fn from_slice(key: &[u8]) -> CursorKey
     requires { length key.now ≤ 256 }
     ensures { result ≡ from_slice key.now }
@@ -44,6 +45,7 @@ pub fn from_slice(key: &[u8]) -> CursorKey
 
 impl CursorPlace {
     // One layer down, before all its keys. The buffer keeps its bytes.
+    #[tactic(auto, unfolding(crate::specs::CursorKey::shift_clear))]
     pub fn shift_clear(self) -> CursorPlace
         requires { self.offset ≤ 256 }
         ensures { result ≡ shift_clear self }
@@ -56,6 +58,7 @@ impl CursorPlace {
     }
 
     // One layer down, where the cursor's own bytes lead into it.
+    #[tactic(auto, unfolding(crate::specs::CursorKey::shift))]
     pub fn shift(self, buf: &[u8; 256]) -> CursorPlace
         requires lt_len { 8 < self.len }
         requires len_bound { self.offset + self.len ≤ 256 }
@@ -69,6 +72,7 @@ impl CursorPlace {
     }
 
     // One layer up, past the slot of the layer that was left.
+    #[tactic(auto, unfolding(crate::specs::CursorKey::unshift))]
     pub fn unshift(self, buf: &[u8; 256]) -> CursorPlace
         requires le_offset { 8 ≤ self.offset }
         requires offset_bound { self.offset ≤ 256 }
@@ -82,6 +86,7 @@ impl CursorPlace {
         }
     }
 
+    #[tactic(auto, unfolding(crate::specs::CursorKey::has_suffix))]
     pub fn has_suffix(self) -> bool
         ensures { result ≡ has_suffix self }
     {
@@ -89,41 +94,34 @@ impl CursorPlace {
     }
 
     // The key's bytes past the layer's ikey.
+    #[tactic(auto, unfolding(crate::specs::CursorKey::suffix_of, crate::specs::CursorKey::has_suffix, base::specs::Pick::pick))]
     pub fn suffix<'a>(self, buf: &'a [u8]) -> &'a [u8]
         requires { self.offset + self.len ≤ length buf.now }
         ensures { result.now ≡ suffix_of self buf.now }
     {
-        if self.len <= 8 {
-            return key::part_of(buf, 0, 0);
+        if self.has_suffix() {
+            key::part_of(buf, self.offset + 8, self.len - 8)
+        } else {
+            &[]
         }
-        key::part_of(buf, self.offset + 8, self.len - 8)
     }
 
     // The cursor against a slot's ikey and keylenx.
+    #[tactic(auto, unfolding(crate::specs::CursorKey::compare_slot, crate::specs::CursorKey::has_suffix, key::specs::Order::order, key::specs::Order::then, base::specs::Pick::pick))]
     pub fn compare(self, other_ikey: u64, keylenx: usize) -> Ordering
         ensures { result ≡ compare_slot self other_ikey keylenx }
     {
-        let ikey = self.ikey;
-        let len = self.len;
-        if ikey < other_ikey {
-            return Ordering::Less;
-        }
-        if other_ikey < ikey {
-            return Ordering::Greater;
-        }
-        if 8 < len {
-            if keylenx <= 8 {
-                return Ordering::Greater;
+        match self.ikey.cmp(&other_ikey) {
+            Ordering::Equal if self.has_suffix() => {
+                if keylenx <= 8 {
+                    Ordering::Greater
+                } else {
+                    Ordering::Equal
+                }
             }
-            return Ordering::Equal;
+            Ordering::Equal => self.len.cmp(&keylenx),
+            unequal => unequal,
         }
-        if len < keylenx {
-            return Ordering::Less;
-        }
-        if keylenx < len {
-            return Ordering::Greater;
-        }
-        Ordering::Equal
     }
 
     // The cursor's suffix against a stored one, in plain byte order.
@@ -135,22 +133,18 @@ impl CursorPlace {
     }
 
     // A slot's ikey into the buffer, at the layer's place.
+    #[tactic(auto, unfolding(crate::specs::CursorKey::with_ikey, crate::specs::CursorKey::store_ikey, key::specs::Ikey::ikey_bytes, key::specs::Ikey::digits))]
     pub fn assign_store_ikey(self, buf: &mut [u8], ikey: u64) -> CursorPlace
         requires buf_len { length buf.old ≡ 256 }
         requires offset_bound { self.offset ≤ 248 }
         ensures { (result ≡ with_ikey self ikey) × (buf.new ≡ store_ikey buf.old self.offset ikey) }
     {
-        let at = self.offset;
-        let bytes = key::ikey_bytes(ikey);
-        key::copy_in(buf, at, &bytes);
-        CursorPlace {
-            offset: at,
-            len: self.len,
-            ikey: ikey,
-        }
+        key::copy_in(buf, self.offset, &key::ikey_bytes(ikey));
+        CursorPlace { ikey, ..self }
     }
 
     // A slot's suffix into the buffer, past the layer's ikey; the length of both.
+    #[tactic(auto, unfolding(crate::specs::CursorKey::store_suffix))]
     pub fn assign_store_suffix(self, buf: &mut [u8], suffix: &[u8]) -> usize
         requires buf_len { length buf.old ≡ 256 }
         requires suffix_bound { self.offset + 8 + length suffix.now ≤ 256 }
@@ -160,13 +154,10 @@ impl CursorPlace {
         8 + suffix.len()
     }
 
+    #[tactic(auto, unfolding(crate::specs::CursorKey::with_length))]
     pub fn assign_store_length(self, len: usize) -> CursorPlace
         ensures { result ≡ with_length self len }
     {
-        CursorPlace {
-            offset: self.offset,
-            len: len,
-            ikey: self.ikey,
-        }
+        CursorPlace { len, ..self }
     }
 }

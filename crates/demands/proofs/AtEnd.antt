@@ -1,12 +1,12 @@
 -- THE INCLUDED END (02 [12]): over an accepted image the answers are those of the machine that moved on past it, and the moves up to the first
 -- none are fewer exactly where it is handed out. The idea of the proof: both machines stand at one walk until the end is out; then nothing is
 -- left of the row, the walk is ended here, and there it makes a move or more to its none.
-use Rattle.std.specs.Prelude.{◌≡◌, ◌∷◌, ◌+◌, ◌≤◌, ◌<◌}
+use Rattle.std.specs.Prelude.{◌≡◌, ◌∷◌, ◌+◌, ◌≤◌, ◌<◌, Some, None, Ok, Err}
 use Rattle.base.specs.Kit.{refl, ap, sym, ◌∙◌, subst, List, [], Bool, true, false, true≢false, false≢true, and-true, inl, inr, ℕ, arith, length, take, get_or}
 use Rattle.base.specs.Pick.{pick}
 use Rattle.base.proofs.Choice.{by_test}
 use Rattle.cursor.specs.RangeBound.{at_end, is_last, bound_of}
-use Rattle.demands.specs.Types.{RangeBound, Tested, StartMode, Ended, Walk, Answer, Key, Nothing, Declined, Stepped}
+use Rattle.demands.specs.Types.{RangeBound, Tested, StartMode, Ended, Walk, Answer, WalkRange, Stepped}
 use Rattle.layering.specs.Keys.{Pair}
 use Rattle.layering.specs.Depths.{depth_of}
 use Rattle.layering.specs.Ascending.{Ascending}
@@ -35,16 +35,16 @@ unfolding said_by number_of keys_of moved_on is_none pick
 none_stays s e = go s.answer refl
   where
     go : (a : Answer) → s.answer ≡ a → moved_on s ≡ s
-    go (Key len value) f = absurd (false≢true (ap is_none (rw f at e)))
-    go Nothing f = rw f
-    go (Declined n) f = rw f
+    go (Ok (Some key)) f = absurd (false≢true (ap is_none (rw f at e)))
+    go (Ok None) f = rw f
+    go (Err d) f = rw f
 
 on_none : (w : Walk) (image : List ℕ) → said_by (step w image) ≡ none → step_on w image ≡ step w image
 unfolding step_on
 on_none w image e = none_stays (step w image) e
 
 -- and one over bytes of another length
-on-foreign : (w : Walk) (lent : List ℕ) → step w lent ≡ declined_with 21 w → step_on w lent ≡ declined_with 21 w
+on-foreign : (w : Walk) (lent : List ℕ) → step w lent ≡ declined_with WalkRange w → step_on w lent ≡ declined_with WalkRange w
 unfolding step_on moved_on keys_of pick
 on-foreign w lent e = rw e
 
@@ -64,11 +64,11 @@ module _ (s : Stepped) (rest : List Stepped) where
 
 -- a step that answers none, and one that is declined
 module _ (w : Walk) where
-  says_none : is_none (said_by (answered Nothing 0 w)) ≡ true
+  says_none : is_none (said_by (answered (Ok None) 0 w)) ≡ true
   unfolding said_by number_of keys_of is_none pick
   says_none = refl
 
-  says-21 : said_by (declined_with 21 w) ≡ declines 21
+  says-21 : said_by (declined_with WalkRange w) ≡ declines 21
   unfolding said_by number_of pick
   says-21 = refl
 
@@ -129,7 +129,7 @@ module _ (image : List ℕ) (B : RangeBound) (Kind-ok : B.kind ≤ 2) (len-ok : 
 
   -- A STEP over other bytes is declined by both.
   abbrev Foreign21 : Walk → List ℕ → Type 0
-  Foreign21 w lent = step w lent ≡ declined_with 21 w
+  Foreign21 w lent = step w lent ≡ declined_with WalkRange w
 
   foreign_of : (w : Walk) (c : Conf) → Walks image B w c → (lent : List ℕ) → (length lent ≡ length image → ⊥) → Foreign21 w lent
   foreign_of w c h lent e = other_length w lent (λ d. e (d ∙ h.same_length))
@@ -261,7 +261,7 @@ module _ (image : List ℕ) (B : RangeBound) (Kind-ok : B.kind ≤ 2) (len-ok : 
       let j = up_more _ (steps_on w rest) (ap is_none (says-21 w)) in
       rw (step_as_lem call.form w call.bytes, on-foreign w call.bytes f, f)
       (record {
-        answers = ap {B = List Said} (λ t. said_by (declined_with 21 w) ∷ t) ih.answers;
+        answers = ap {B = List Said} (λ t. said_by (declined_with WalkRange w) ∷ t) ih.answers;
         fewer = λ t u. omega (arith, i, j, ih.fewer (rw (says-21 w) at t) (rw (says-21 w) at u));
         else_same = λ t. omega (arith, i, j, ih.else_same (rw (says-21 w) at t));
       })
@@ -278,7 +278,7 @@ same_end kind bound (declines n ∷ l) = same_end kind bound l
 -- THE THEOREM, of a placing over an image whose check gives 0 and any list of steps of either form, lent that image or bytes of another length.
 pub stops-at_end : (image : List ℕ) → ((i : ℕ) → get_or image i 0 < 256) → check_number (check image) ≡ 0
     → (mode : StartMode) (cursor : List ℕ) → ((i : ℕ) → get_or cursor i 0 < 256) → (kind : ℕ) (bound : List ℕ)
-    → (place image mode cursor kind bound).code ≡ 0 → (calls : List Call) → Lent image calls
+    → (place image mode cursor kind bound).declined ≡ None → (calls : List Call) → Lent image calls
     → (let w = (place image mode cursor kind bound).walk in StopsAtEnd kind bound (steps w calls) (steps_on w calls))
 stops-at_end image b a mode cursor bc kind bound e calls l =
     let o = (accepted_obeys image a).0 in

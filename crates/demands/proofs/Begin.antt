@@ -1,12 +1,12 @@
 -- A fresh walk over an accepted image stands before a row (`begin`), whatever its cursor: what is left of it is what lies
 -- past the start, each key of it has its depth, and the potential is no more than the tree weighs.
-use Rattle.std.specs.Prelude.{◌≡◌, ◌++◌, ◌+◌, ◌*◌, ◌-◌, ◌≤◌, ◌<◌}
+use Rattle.std.specs.Prelude.{◌≡◌, ◌++◌, ◌+◌, ◌*◌, ◌-◌, ◌≤◌, ◌<◌, Ok}
 use Rattle.base.specs.Kit.{refl, ap, sym, ◌∙◌, subst, List, [], append-nil, true, ℕ, suc, arith, ltb, length, get_or, replicate, lt-ltb, le-ltb}
 use Rattle.base.specs.Pick.{pick}
 use Rattle.base.proofs.Choice.{pick_ind}
 use Rattle.key.specs.Ikey.{ikey_of}
 use Rattle.key.specs.Part.{padded}
-use Rattle.demands.specs.Types.{Ordering, CursorPlace, ReachedLeaf, StartMode, Above, From, WalkState, WalkStateStart as Start, WalkStateRetry as Retry}
+use Rattle.demands.specs.Types.{Ordering, CursorPlace, StartMode, Above, From, WalkState, WalkStateStart as Start, WalkStateRetry as Retry}
 use Rattle.key.proofs.Order.{Cmp, is_lt, is_eq, is_gt, cmp}
 use Rattle.key.proofs.Bytes.{Bytes}
 use Rattle.key.proofs.Ikey.{rank}
@@ -121,7 +121,7 @@ module _ (image : List ℕ) (b : (i : ℕ) → get_or image i 0 < 256) (o : Obey
     unfolding At
     landed = route_n_lands image (tree_of image) (ikey_of x) stop (sound image b o) (λ m d. (refl, d))
 
-    reaches-leaf : reach image (ikey_of x) (root_offset image) ≡ ReachedLeaf leaf-at
+    reaches-leaf : reach image (ikey_of x) (root_offset image) ≡ Ok leaf-at
     unfolding reach leaf-at
     reaches-leaf = reach_n image (tree_of image) (root_offset image + 1) (ikey_of x) stop (sound image b o) (omega arith)
 

@@ -2,7 +2,7 @@
 -- (01: "Demand 3 is one claim about its whole list, not one for each step"). The idea of the proof: the machine over
 -- the image follows a machine over the row of the tree, whose potential pays for every move (proofs/Follow.antt,
 -- Run.antt and Steps.antt).
-use Rattle.std.specs.Prelude.{◌≡◌, ◌≤◌, ◌<◌}
+use Rattle.std.specs.Prelude.{◌≡◌, ◌≤◌, ◌<◌, None}
 use Rattle.base.specs.Kit.{List, ℕ, length, get_or}
 use Rattle.layering.specs.Ascending.{Ascending}
 use Rattle.layering.specs.Sieve.{row_of}
@@ -10,7 +10,7 @@ use Rattle.layering.proofs.Asked.{row_in-order}
 use Rattle.verify.specs.Check.{check_number, check}
 use Rattle.verify.specs.Acceptance.{tree_counts}
 use Rattle.verify.proofs.Theorem.{accepted_obeys}
-use Rattle.demands.specs.Types.{StartMode, Walk}
+use Rattle.demands.specs.Types.{StartMode, Walk, WalkRange}
 use Rattle.walk.specs.Placing.{place}
 use Rattle.scan.specs.Machine.{declined_with, step}
 use Rattle.demands.specs.Demand.{Call, Lent, Demand3}
@@ -21,7 +21,7 @@ use Rattle.demands.proofs.Whole.{taken, takes, fresh-steps}
 -- lent, each given the walk as the one before left it (`steps`) and lent that image or bytes of another length (`Lent`).
 pub demand-3 : (image : List ℕ) → ((i : ℕ) → get_or image i 0 < 256) → check_number (check image) ≡ 0
     → (mode : StartMode) (cursor : List ℕ) → ((i : ℕ) → get_or cursor i 0 < 256) → (kind : ℕ) (bound : List ℕ)
-    → (place image mode cursor kind bound).code ≡ 0 → (calls : List Call) → Lent image calls → Demand3 image mode cursor kind bound calls
+    → (place image mode cursor kind bound).declined ≡ None → (calls : List Call) → Lent image calls → Demand3 image mode cursor kind bound calls
 unfolding tree_counts
 demand-3 image b a mode cursor bc kind bound e calls l =
     let o = accepted_obeys image a in
@@ -36,12 +36,12 @@ demand-3 image b a mode cursor bc kind bound e calls l =
 
 -- COROLLARIES. The placings over an accepted image that are taken: cursor, kind and bound in their limits.
 pub is-taken : (image : List ℕ) → check_number (check image) ≡ 0 → (mode : StartMode) (cursor : List ℕ) (kind : ℕ) (bound : List ℕ)
-    → length cursor ≤ 256 → kind ≤ 2 → length bound ≤ 256 → (place image mode cursor kind bound).code ≡ 0
+    → length cursor ≤ 256 → kind ≤ 2 → length bound ≤ 256 → (place image mode cursor kind bound).declined ≡ None
 is-taken image a = takes image (accepted_obeys image a).0
 
 -- A step lent another length changes nothing, whatever the walk.
 pub foreign : (w : Walk) (lent : List ℕ) → (length lent ≡ w.image_len → ⊥)
-    → step w lent ≡ declined_with 21 w
+    → step w lent ≡ declined_with WalkRange w
 foreign = other_length
 
 -- The row ascends strictly in plain byte order.

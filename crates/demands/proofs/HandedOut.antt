@@ -1,18 +1,17 @@
 -- THE THEOREMS of 02 [13] about every list of steps from a fresh placing. `count-is-keys`, over any image and any bytes that the steps are lent:
 -- "After every list of steps from a fresh placing the walk's count equals the number of keys handed out". `carried-due`, over an accepted image:
 -- what each step carries, the depth of its key being that of the layer in which the tree holds it.
-use Rattle.std.specs.Prelude.{◌≡◌, ◌∷◌, ◌+◌, ◌<◌}
-use Rattle.base.specs.Kit.{refl, ap, sym, subst, List, [], not, ℕ, arith, eqb, get_or}
-use Rattle.base.proofs.Choice.{pick_ind}
+use Rattle.std.specs.Prelude.{◌≡◌, ◌∷◌, ◌+◌, ◌<◌, None, Result, Ok, Err}
+use Rattle.base.specs.Kit.{refl, ap, sym, subst, List, [], ℕ, arith, get_or}
 use Rattle.layering.specs.Sieve.{row_of}
 use Rattle.verify.specs.Check.{check_number, check}
 use Rattle.verify.proofs.Theorem.{accepted_obeys}
 use Rattle.walk.specs.Walk.{keys_of, nothing_yet, zero_walk}
-use Rattle.walk.specs.Placing.{place_fault, fresh_walk, place}
+use Rattle.walk.specs.Placing.{placing, fresh_walk, placed_by, place}
 use Rattle.scan.proofs.Carries.{step_carries}
 use Rattle.lent.specs.Form.{step_as}
 use Rattle.lent.proofs.Same.{step_as_lem}
-use Rattle.demands.specs.Types.{HandedOut, StartMode, Walk, Placed, Stepped}
+use Rattle.demands.specs.Types.{HandedOut, StartMode, Walk, Decline, Stepped}
 use Rattle.demands.specs.Demand.{Call, steps, Lent, own}
 use Rattle.demands.specs.HandedOut.{walk_after, keys_out, handed_by, due_handed}
 use Rattle.demands.proofs.Whole.{taken, fresh-steps}
@@ -30,7 +29,11 @@ counted (c ∷ rest) w =
 placed-none : (image : List ℕ) (mode : StartMode) (cursor : List ℕ) (kind : ℕ) (bound : List ℕ) → (place image mode cursor kind bound).walk.handed ≡ nothing_yet
 unfolding place zero_walk fresh_walk
 placed-none image mode cursor kind bound =
-    pick_ind (λ (p : Placed). p.walk.handed ≡ nothing_yet) (not (eqb (place_fault image cursor kind bound) 0)) (λ t. refl) (λ t. refl)
+    go (placing image cursor kind bound)
+  where
+    go : (r : Result Unit Decline) → (placed_by r (fresh_walk image mode cursor kind bound)).walk.handed ≡ nothing_yet
+    go (Ok seen) = refl
+    go (Err d) = refl
 
 pub count-is-keys : (image : List ℕ) (mode : StartMode) (cursor : List ℕ) (kind : ℕ) (bound : List ℕ) (calls : List Call)
     → (let w = (place image mode cursor kind bound).walk in (walk_after w calls).handed.count ≡ keys_out (steps w calls))
@@ -40,7 +43,7 @@ count-is-keys image mode cursor kind bound calls =
 
 pub carried-due : (image : List ℕ) → ((i : ℕ) → get_or image i 0 < 256) → check_number (check image) ≡ 0
     → (mode : StartMode) (cursor : List ℕ) → ((i : ℕ) → get_or cursor i 0 < 256) → (kind : ℕ) (bound : List ℕ)
-    → (place image mode cursor kind bound).code ≡ 0 → (calls : List Call) → Lent image calls
+    → (place image mode cursor kind bound).declined ≡ None → (calls : List Call) → Lent image calls
     → handed_by (steps (place image mode cursor kind bound).walk calls) ≡ due_handed image (own image calls) (row_of image mode cursor kind bound) nothing_yet
 carried-due image b a mode cursor bc kind bound e calls l =
     let t = taken image mode cursor kind bound e in

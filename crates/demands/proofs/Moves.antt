@@ -1,10 +1,11 @@
 -- What a move comes to where no fault is met: over a leaf in order each pass of FindNext is one of six, and the
 -- duplicate check goes by rank. Each lemma takes one test's way through the definitions of the machine.
-use Rattle.std.specs.Prelude.{◌≡◌, ◌+◌, ◌*◌, ◌≤◌, ◌<◌}
+use Rattle.std.specs.Prelude.{◌≡◌, ◌+◌, ◌*◌, ◌≤◌, ◌<◌, Result, Ok}
 use Rattle.base.specs.Kit.{refl, ap, ◌∙◌, List, Bool, true, false, ℕ, min, arith, leb, ltb, le-ltb, le-leb, lt-leb, eq-eqb, ne_eqb}
 use Rattle.base.specs.Pick.{pick}
+use Rattle.base.specs.Decline.{and_then}
 use Rattle.key.specs.Order.{order, then}
-use Rattle.demands.specs.Types.{Ordering, OrderingLess as Less, OrderingEqual as Equal, OrderingGreater as Greater, Slot, CursorPlace, SearchedAt as At, FindNext, Up, ScanCtx, Continue, Duplicate, No, Yes}
+use Rattle.demands.specs.Types.{Ordering, OrderingLess as Less, OrderingEqual as Equal, OrderingGreater as Greater, Slot, CursorPlace, FindNext, Up, ScanCtx, Continue, Decline}
 use Rattle.key.proofs.Order.{Cmp, is_lt, is_eq, is_gt, cmp}
 use Rattle.node.specs.Layout.{next_at}
 use Rattle.cursor.specs.CursorKey.{compare_slot}
@@ -63,36 +64,36 @@ module _ (k : CursorPlace) (hl : k.len ≤ 8) (x klx : ℕ) where
       go (is_gt a) b = absurd (omega arith)
 
 -- The duplicate check where it is due, at the walk's position: what FindNext goes by.
-unfoldable pub dup_at : List ℕ → List ℕ → ScanCtx → Duplicate
-dup_at image buf c = pick c.dup (dup_of image buf c (slot_no image c)) No
+unfoldable pub dup_at : List ℕ → List ℕ → ScanCtx → Result Bool Decline
+dup_at image buf c = pick c.dup (dup_of image buf c (slot_no image c)) (Ok false)
 
 module _ (image buf : List ℕ) (c : ScanCtx) where
   -- not due
-  pub dup_off : c.dup ≡ false → dup_at image buf c ≡ No
+  pub dup_off : c.dup ≡ false → dup_at image buf c ≡ Ok false
   unfolding dup_at pick
-  dup_off e = ap (λ (b : Bool). pick b (dup_of image buf c (slot_no image c)) No) e
+  dup_off e = ap (λ (b : Bool). pick b (dup_of image buf c (slot_no image c)) (Ok false)) e
 
-  dup_new : compare_slot c.cursor (slot_of image c).ikey (slot_of image c).keylenx ≡ Less → dup_at image buf c ≡ No
+  dup_new : compare_slot c.cursor (slot_of image c).ikey (slot_of image c).keylenx ≡ Less → dup_at image buf c ≡ Ok false
   unfolding dup_at dup_of by_order fields_at pick
   dup_new e = go c.dup
     where
-      go : (b : Bool) → pick b (dup_of image buf c (slot_no image c)) No ≡ No
+      go : (b : Bool) → pick b (dup_of image buf c (slot_no image c)) (Ok false) ≡ Ok false
       go true = rw e
       go false = refl
 
-  pub dup_less : c.cursor.ikey < (slot_of image c).ikey → dup_at image buf c ≡ No
+  pub dup_less : c.cursor.ikey < (slot_of image c).ikey → dup_at image buf c ≡ Ok false
   dup_less h = dup_new (compare_less c.cursor _ _ h)
 
   pub dup_no : c.cursor.len ≤ 8 → cursor_rank c.cursor < rank_at image c.leaf c.position.0
-      → dup_at image buf c ≡ No
+      → dup_at image buf c ≡ Ok false
   unfolding rank_at slot_rank
   dup_no n h = dup_new (compare_above c.cursor n _ _ h)
 
   pub dup_yes : c.dup ≡ true → c.cursor.len ≤ 8 → rank_at image c.leaf c.position.0 ≡ cursor_rank c.cursor
-      → dup_at image buf c ≡ Yes
+      → dup_at image buf c ≡ Ok true
   unfolding dup_at dup_of by_order fields_at pick rank_at slot_rank
   dup_yes e n h =
-      ap (λ (b : Bool). pick b (dup_of image buf c (slot_no image c)) No) e
+      ap (λ (b : Bool). pick b (dup_of image buf c (slot_no image c)) (Ok false)) e
       ∙ rw (compare_same c.cursor n (slot_of image c).ikey (slot_of image c).keylenx h, no-suffix c.cursor n)
 
 -- THE PASSES OF FINDNEXT
@@ -117,14 +118,14 @@ module _ (image : List ℕ) (kind : ℕ) (bound buf : List ℕ) (c : ScanCtx) (o
         )
 
     -- a slot that is new to the walk, and one that it has come to
-    pub find_new : c.last ≤ (slot_of image c).ikey → dup_at image buf c ≡ No
+    pub find_new : c.last ≤ (slot_of image c).ikey → dup_at image buf c ≡ Ok false
         → find_next image kind bound buf c ≡ take_slot image kind bound buf c (slot_no image c)
     unfolding unless_dup
     find_new h d = find_slot_lem h ∙ rw d
 
-    pub find_old : c.last ≤ (slot_of image c).ikey → dup_at image buf c ≡ Yes
+    pub find_old : c.last ≤ (slot_of image c).ikey → dup_at image buf c ≡ Ok true
         → find_next image kind bound buf c
-        ≡ kept buf (record { outcome = Continue; ctx = onward c c.cursor c.last })
+        ≡ kept buf (Ok (record { outcome = Continue; ctx = onward c c.cursor c.last }))
     unfolding unless_dup
     find_old h d = find_slot_lem h ∙ rw d
 
@@ -159,13 +160,13 @@ module _ (image : List ℕ) (kind : ℕ) (bound buf : List ℕ) (c : ScanCtx) (o
 -- past the last leaf of the layer, and on to the next
 pub advance_up : (image buf : List ℕ) (c : ScanCtx) → next_at image c.leaf ≡ 0
     → advance_leaf image buf c
-    ≡ record { outcome = Continue; ctx = stand_at c c.leaf c.position c.cursor Up false c.last }
+    ≡ Ok (record { outcome = Continue; ctx = stand_at c c.leaf c.position c.cursor Up false c.last })
 unfolding advance_leaf pick
 advance_up image buf c e = rw (eq-eqb (next_at image c.leaf) 0 e)
 
 pub advance-on : (image buf : List ℕ) (c : ScanCtx) (m : ℕ) → next_at image c.leaf ≡ m → 0 < m
-    → leaf_there image m ≡ true → lower_with_suffix image m c.cursor buf ≡ At (position 0)
+    → leaf_there image m ≡ true → lower_with_suffix image m c.cursor buf ≡ Ok (position 0)
     → advance_leaf image buf c
-    ≡ record { outcome = Continue; ctx = stand_at c m (position 0) c.cursor FindNext false c.last }
-unfolding advance_leaf pick standing
+    ≡ Ok (record { outcome = Continue; ctx = stand_at c m (position 0) c.cursor FindNext false c.last })
+unfolding advance_leaf pick standing and_then
 advance-on image buf c m e h t z = rw (e, ne_eqb m 0 (λ q. omega arith), t, z)

@@ -2,11 +2,11 @@
 -- keys past the start. The idea: what the descent and the search in the leaf pass over ranks below the cursor, or with
 -- it where the walk begins above it; a slot of the cursor's own rank is passed over by the duplicate check, and stands
 -- dead.
-use Rattle.std.specs.Prelude.{◌≡◌, ◌+◌, ◌*◌, ◌≤◌, ◌<◌}
+use Rattle.std.specs.Prelude.{◌≡◌, ◌+◌, ◌*◌, ◌≤◌, ◌<◌, Ok}
 use Rattle.base.specs.Kit.{refl, ◌∙◌, subst, List, [], true, false, ℕ, zero, suc, arith, length, replicate, length-replicate}
 use Rattle.key.specs.Ikey.{ikey_of}
 use Rattle.key.specs.Part.{padded}
-use Rattle.demands.specs.Types.{Ordering, ScanState, ScanStateRetry as Retry, Above, No}
+use Rattle.demands.specs.Types.{Ordering, ScanState, ScanStateRetry as Retry, Above}
 use Rattle.key.proofs.Order.{Cmp, is_lt, is_eq, is_gt, cmp}
 use Rattle.key.proofs.Bytes.{Bytes}
 use Rattle.key.proofs.Ikey.{rank, padded-length}
@@ -154,7 +154,7 @@ module _ (image : List ℕ) where
     plain_at : (to : Row) (low : ℕ) → At image 0 l i to → Asc low to
         → NextHop (ikey_of x) to → Past (suc (rank x)) r to
         → (i < used_in image l → suc (rank x) ≤ rank_at image l i)
-        → (i < used_in image l → dup_at image (padded x) begun.ctx ≡ No)
+        → (i < used_in image l → dup_at image (padded x) begun.ctx ≡ Ok false)
         → Placed x begun r
     unfolding opening arrived rank
     plain_at to low a s h p g d = record {

@@ -1,9 +1,10 @@
 -- The descent in an image follows the tree's: `reach` comes to the leaf that `route_n` (layering/proofs/Descent.antt)
 -- comes to, and meets no fault. The idea: a child's record lies before its parent's, so that any count above the offset
 -- suffices.
-use Rattle.std.specs.Prelude.{◌≡◌, ◌+◌, ◌≤◌, ◌<◌}
+use Rattle.std.specs.Prelude.{◌≡◌, ◌+◌, ◌≤◌, ◌<◌, Result, Ok}
 use Rattle.base.specs.Kit.{refl, ap, sym, ◌∙◌, subst, List, Bool, true, false, ℕ, zero, suc, arith, ltb, eqb, lt-ltb, le-ltb, lt-leb, eqb-true}
 use Rattle.base.specs.Pick.{pick}
+use Rattle.base.specs.Decline.{and_then}
 use Rattle.node.specs.Layout.{nkeys_at, separator_at, child_at}
 use Rattle.node.specs.Ksearch.{upper_bound}
 use Rattle.layering.specs.Tree.{LeafHead, InternodeHead, Node, leaf, internode, beyond, Kids, last, more, Slots, leaf_head, internode_head}
@@ -14,7 +15,7 @@ use Rattle.layering.proofs.Held.{HeldN}
 use Rattle.layering.proofs.Size.{leaves_fit_k, leaves_fit_s}
 use Rattle.layering.proofs.Descent.{route_n, route_k, zero_n}
 use Rattle.search.specs.Traversal.{record_at, by_kind, child_for, reach_from, reach}
-use Rattle.demands.specs.Types.{RecordKindLeaf as Leaf, Internode, ReachedLeaf}
+use Rattle.demands.specs.Types.{RecordKindLeaf as Leaf, Internode, Decline}
 use Rattle.verify.proofs.Places.{aligned_k, aligned_s}
 use Rattle.demands.proofs.Sound.{SoundN, SoundK, kids_of_lem, last_of, first_of, rest_of, record-leaf, record-internode}
 
@@ -30,7 +31,7 @@ module _ (image : List ℕ) where
     leaf-place g = head-place g ∙ g.order.1
 
     pub leaf-record : {h : LeafHead} {s : Slots} → SoundN image depth at lo hi next l (leaf h s)
-        → record_at image l ≡ Leaf
+        → record_at image l ≡ Ok Leaf
     unfolding HeldN FieldsN leaf_head end_n
     leaf-record {s = s} g =
         let e : l ≡ end_s at s = leaf-place g in
@@ -43,7 +44,7 @@ module _ (image : List ℕ) where
     internode-place g = sym (ap (λ (h : InternodeHead). h.offset) g.holds.1) ∙ g.order.1
 
     internode-record : {h : InternodeHead} {k : Kids} → SoundN image depth at lo hi next l (internode h k)
-        → record_at image l ≡ Internode
+        → record_at image l ≡ Ok Internode
     unfolding HeldN FieldsN internode_head end_n
     internode-record {k = k} g =
         let e : l ≡ end_k at k = internode-place g in
@@ -76,7 +77,7 @@ module _ (image : List ℕ) where
   -- the child that a search goes to lies before its parent, and the search comes to its leaf
   pub record Branch (f x l c to : ℕ) : Type 0 where
     pub lower : c < l
-    pub comes : reach_from f image x c ≡ ReachedLeaf to
+    pub comes : reach_from f image x c ≡ Ok to
 
   -- one separator y: the child before it, or what the search comes to behind it, at u
   branch-at : (f x l i u y : ℕ) (a b : ℕ × Row) → Branch f x l (child_at image l i) a.0
@@ -94,12 +95,12 @@ module _ (image : List ℕ) where
       left false = right (eqb x y) refl
 
   mutual
-    unfolding route_n reach_from by_kind child_for end_n HeldN pick ShortPathsN upper_bound
+    unfolding route_n reach_from by_kind and_then child_for end_n HeldN pick ShortPathsN upper_bound
 
     pub reach_n : (n : Node) {depth at lo hi next l : ℕ} (f x : ℕ) (r : Row) → SoundN image depth at lo hi next l n
-        → l < f → reach_from f image x l ≡ ReachedLeaf (route_n x n r).0
+        → l < f → reach_from f image x l ≡ Ok (route_n x n r).0
     reach_n (leaf h s) zero x r g w = absurd (omega arith)
-    reach_n (leaf h s) (suc f) x r g w = rw (leaf-record g) (ap ReachedLeaf (head-place g))
+    reach_n (leaf h s) (suc f) x r g w = rw (leaf-record g) (ap {B = Result ℕ Decline} (λ m. Ok m) (head-place g))
     reach_n (internode h k) zero x r g w = absurd (omega arith)
     reach_n (internode h k) {l = l} (suc f) x r g w =
         let b : Branch f x l (child_for image l x) (route_k x k r).0
@@ -129,7 +130,7 @@ module _ (image : List ℕ) where
 
   -- A search for 0 comes to the layer's first leaf.
   pub reach-first : (n : Node) {depth at lo hi next l : ℕ} → SoundN image depth at lo hi next l n
-      → reach image 0 l ≡ ReachedLeaf (first_n n)
+      → reach image 0 l ≡ Ok (first_n n)
   unfolding reach
   reach-first n {lo = lo} {hi = hi} {l = l} g =
-      reach_n n (l + 1) 0 stop g (omega arith) ∙ ap ReachedLeaf (zero_n n lo hi stop g.range)
+      reach_n n (l + 1) 0 stop g (omega arith) ∙ ap {B = Result ℕ Decline} (λ m. Ok m) (zero_n n lo hi stop g.range)

@@ -1,6 +1,6 @@
 -- All that an accepted image says of one subtree, its children or its slots, in one record: what the image holds there,
 -- where it lies, its range and its depth. Proved: a subtree's parts are such again, and its records can be read.
-use Rattle.std.specs.Prelude.{◌≡◌, ◌+◌, ◌%◌, ◌^◌, ◌≤◌, ◌<◌}
+use Rattle.std.specs.Prelude.{◌≡◌, ◌+◌, ◌%◌, ◌^◌, ◌≤◌, ◌<◌, Ok}
 use Rattle.base.specs.Kit.{List, true, false, ℕ, arith, length, get_or, le-leb, eq-eqb}
 use Rattle.base.specs.Pick.{pick}
 use Rattle.node.specs.Version.{is_leaf, at_rest}
@@ -216,7 +216,7 @@ sound image b o = record {
 
 -- RECORDS ARE READ. A record of a whole subtree, and what a move finds there.
 module _ (image : List ℕ) (l : ℕ) (whole : l % 8 ≡ 0) (start : 8 ≤ l) (rest : at_rest (version_at image l) ≡ true) where
-  pub record-leaf : l + 432 ≤ length image → is_leaf (version_at image l) ≡ true → record_at image l ≡ Leaf
+  pub record-leaf : l + 432 ≤ length image → is_leaf (version_at image l) ≡ true → record_at image l ≡ Ok Leaf
   unfolding record_at readable pick
   record-leaf h t =
       rw (
@@ -228,7 +228,7 @@ module _ (image : List ℕ) (l : ℕ) (whole : l % 8 ≡ 0) (start : 8 ≤ l) (r
         le-leb (l + 400 + 32) (length image) (omega arith),
       )
 
-  pub record-internode : l + 288 ≤ length image → is_leaf (version_at image l) ≡ false → record_at image l ≡ Internode
+  pub record-internode : l + 288 ≤ length image → is_leaf (version_at image l) ≡ false → record_at image l ≡ Ok Internode
   unfolding record_at readable pick
   record-internode h t =
       rw (eq-eqb (l % 8) 0 whole, le-leb 8 l start, le-leb (l + 256 + 32) (length image) (omega arith), rest, t)

@@ -2,16 +2,17 @@
 -- them the walk comes to a place from which on the row, and the rows stacked on the way, have exactly the keys past the
 -- start; and the potential pays for them. The idea: slot by slot the verdict is the test that the row is sieved by
 -- (proofs/Verdict.antt); a layer that is entered hands the rest of the cursor on, and the row behind its slot waits.
-use Rattle.std.specs.Prelude.{◌≡◌, ◌++◌, ◌+◌, ◌*◌, ◌-◌, ◌^◌, ◌≤◌, ◌<◌}
+use Rattle.std.specs.Prelude.{◌≡◌, ◌++◌, ◌+◌, ◌*◌, ◌-◌, ◌^◌, ◌≤◌, ◌<◌, Result, Ok}
 use Rattle.base.specs.Kit.{refl, ap, ap₂, sym, ◌∙◌, subst, List, append_assoc, Bool, true, false, ℕ, zero, suc, arith, length, take, drop, set, length-append, length-drop, take-append-drop, take_at, drop_at, take_all, take-take, length-take-le, lt-leb}
 use Rattle.base.specs.Pick.{pick}
+use Rattle.base.specs.Decline.{and_then}
 use Rattle.key.specs.Ikey.{ikey_of, ikey_bytes}
 use Rattle.key.specs.Part.{part}
 use Rattle.key.proofs.Order.{cmp_prefix}
 use Rattle.key.proofs.Bytes.{Bytes, bytes_take, bytes_drop}
 use Rattle.key.proofs.Ikey.{rank, be-take, ikey_bytes-length, ikey_bytes-ikey_of}
 use Rattle.node.specs.Layout.{value_at}
-use Rattle.demands.specs.Types.{Slot, CursorPlace, ReachedLeaf, StartMode, Above, From, Verdict, Started, StartedAt, StartedEnter, ScanState, ScanStateStart as Start, Continue}
+use Rattle.demands.specs.Types.{Slot, CursorPlace, StartMode, Above, From, Verdict, Started, StartedAt, StartedEnter, ScanState, ScanStateStart as Start, Continue, Decline}
 use Rattle.cursor.specs.CursorKey.{shift, suffix_of, store_ikey}
 use Rattle.layering.specs.Tree.{Node, Slots, none, value, layer, fields_at}
 use Rattle.layering.specs.Keys.{Pair, own_bytes}
@@ -26,8 +27,8 @@ use Rattle.layering.proofs.Walk.{Stack, frame, seek, above, climb, KnownAbove, K
 use Rattle.search.specs.Traversal.{reach}
 use Rattle.search.specs.Helper.{position, slot_in}
 use Rattle.start.specs.Start.{verdict, by_verdict, start_from, start_position}
-use Rattle.moves.specs.Moves.{stand_at, standing, kept, begin, start_in, find_start, pass_in}
-use Rattle.scan.specs.Machine.{Scan, pushing, entered, moved_by, before, move_in, move}
+use Rattle.moves.specs.Moves.{stand_at, standing, kept, taken_on, begin, start_in, find_start, pass_in}
+use Rattle.scan.specs.Machine.{Scan, pushing, entered, passed_by, before, move_in, move}
 use Rattle.demands.proofs.Leaf.{used_in, ikey_in, LeafOk, past_slot}
 use Rattle.demands.proofs.Moves.{dup_off}
 use Rattle.demands.proofs.Relation.{IsSub, At, Core, Standing, plain, Nexts}
@@ -131,13 +132,13 @@ module _ (mode : StartMode) (X p y : List ℕ) (whole : X ≡ p ++ y) (by : Byte
       pub known : (t : List ℕ → ℕ) → Known t p row → Known t (p ++ k) (flat_n node stop) × Known t p behind
       pub light : 5 + weight (flat_n node stop) + weight behind ≤ weight row
 
-    pub data Begins (row : Row) : Started → Type 0 where
-      stands_at_lem : (j : ℕ) → Stood row j → Begins row (StartedAt (position j))
-      enters-at : (j : ℕ) → Entered row j → Begins row (StartedEnter (slot_in image l j))
+    pub data Begins (row : Row) : Result Started Decline → Type 0 where
+      stands_at_lem : (j : ℕ) → Stood row j → Begins row (Ok (StartedAt (position j)))
+      enters-at : (j : ℕ) → Entered row j → Begins row (Ok (StartedEnter (slot_in image l j)))
 
     -- one slot more in front, that is passed over
     begins-on : {row row' : Row} → sieve (past mode X) (keys p row) ≡ sieve (past mode X) (keys p row')
-        → ((t : List ℕ → ℕ) → Known t p row → Known t p row') → weight row' ≤ weight row → {o : Started} → Begins row' o → Begins row o
+        → ((t : List ℕ → ℕ) → Known t p row → Known t p row') → weight row' ≤ weight row → {o : Result Started Decline} → Begins row' o → Begins row o
     begins-on e q h (stands_at_lem j g) =
         stands_at_lem j
         (record {
@@ -187,7 +188,7 @@ module _ (mode : StartMode) (X p y : List ℕ) (whole : X ≡ p ++ y) (by : Byte
       pub begins : (s : Slots) {from lo hi i : ℕ} (m low : ℕ) → SoundS image depth from lo hi l i s
           → i + m ≡ used_in image l → Asc low (flat_s s r) → NextHop (ikey_of y) (flat_s s r)
           → Begins (flat_s s r) (start_from mode image l k buf i m)
-      unfolding start_from by_verdict flat_n HeldN At Asc NextHop Known weight
+      unfolding start_from by_verdict and_then flat_n HeldN At Asc NextHop Known weight
       begins none {i = i} zero low g e a h =
           stands_at_lem i
           (record {
@@ -213,8 +214,8 @@ module _ (mode : StartMode) (X p y : List ℕ) (whole : X ≡ p ++ y) (by : Byte
           d : At image depth l i (flat_s (value f t) r)
           d = row_s image (value f t) r g ar
 
-          go : {v : Verdict} → Judged y (own_bytes f) mode v → {o : Started} → Begins (flat_s t r) o
-              → Begins (flat_s (value f t) r) (by_verdict v i (slot_in image l i) o)
+          go : {v : Result Verdict Decline} → Judged y (own_bytes f) mode v → {o : Result Started Decline} → Begins (flat_s t r) o
+              → Begins (flat_s (value f t) r) (and_then v (λ w. by_verdict w i (slot_in image l i) o))
           go (passes n) ih =
               begins-on (val-out (own_bytes f) f.live f.value (flat_s t r) n) (λ u q. known_behind u p (own_bytes f) f.live f.value (flat_s t r) q) (omega arith) ih
           go (stands n w) ih =
@@ -239,8 +240,8 @@ module _ (mode : StartMode) (X p y : List ℕ) (whole : X ≡ p ++ y) (by : Byte
           d : At image depth l i (flat_s (layer f n t) r)
           d = row_s image (layer f n t) r g ar
 
-          go : {v : Verdict} → SaysSub y (ikey_in image l i) v → {o : Started} → Begins (flat_s t r) o
-              → Begins (flat_s (layer f n t) r) (by_verdict v i (slot_in image l i) o)
+          go : {v : Result Verdict Decline} → SaysSub y (ikey_in image l i) v → {o : Result Started Decline} → Begins (flat_s t r) o
+              → Begins (flat_s (layer f n t) r) (and_then v (λ w. by_verdict w i (slot_in image l i) o))
           go (passes-sub w) ih =
               begins-on
               (sub_out (ikey_bytes f.ikey) f.value (flat_n n stop) (flat_s t r) a.0 a.1 a.3
@@ -348,17 +349,17 @@ module _ (image : List ℕ) (mode : StartMode) (X z : List ℕ) (wide : Wide mod
   module _ (kind : ℕ) (bound : List ℕ) where
     -- one Start move
     starts : (s : Scan) (l i : ℕ) → s.ctx.state ≡ Start mode
-        → reach image s.ctx.cursor.ikey s.ctx.root ≡ ReachedLeaf l
-        → start_position mode image l s.ctx.cursor s.buf ≡ StartedAt (position i)
-        → move image kind bound s ≡ record { outcome = Continue; scan = arrived s l i s.ctx.dup }
-    unfolding move move_in before pass_in moved_by pushing pick find_start start_in begin kept standing arrived
+        → reach image s.ctx.cursor.ikey s.ctx.root ≡ Ok l
+        → start_position mode image l s.ctx.cursor s.buf ≡ Ok (StartedAt (position i))
+        → move image kind bound s ≡ record { outcome = Ok Continue; scan = arrived s l i s.ctx.dup }
+    unfolding move move_in before pass_in passed_by pushing pick find_start start_in taken_on begin kept standing arrived
     starts s l i e h g = ap (λ (z : ScanState). move_in z image kind bound s) e ∙ rw (h, g)
 
     enters : (s : Scan) (l : ℕ) (t : Slot) → s.ctx.state ≡ Start mode
-        → reach image s.ctx.cursor.ikey s.ctx.root ≡ ReachedLeaf l
-        → start_position mode image l s.ctx.cursor s.buf ≡ StartedEnter t
-        → move image kind bound s ≡ record { outcome = Continue; scan = entering s l (value_at image l t) }
-    unfolding move move_in before pass_in moved_by pushing pick find_start start_in begin entering
+        → reach image s.ctx.cursor.ikey s.ctx.root ≡ Ok l
+        → start_position mode image l s.ctx.cursor s.buf ≡ Ok (StartedEnter t)
+        → move image kind bound s ≡ record { outcome = Ok Continue; scan = entering s l (value_at image l t) }
+    unfolding move move_in before pass_in passed_by pushing pick find_start start_in taken_on begin entering
     enters s l t e h g = ap (λ (z : ScanState). move_in z image kind bound s) e ∙ rw (h, g)
 
     -- WHERE THE START MOVES COME TO from s, in a layer whose row is `row`: `steps` of them enter a layer, and the last
@@ -384,7 +385,7 @@ module _ (image : List ℕ) (mode : StartMode) (X z : List ℕ) (wide : Wide mod
       unfolding At
       landed = route_n_lands image n x stop g.sound (λ m d. (refl, d))
 
-      reaches-leaf : reach image s.ctx.cursor.ikey s.ctx.root ≡ ReachedLeaf leaf-at
+      reaches-leaf : reach image s.ctx.cursor.ikey s.ctx.root ≡ Ok leaf-at
       unfolding reach leaf-at x
       reaches-leaf =
           ap (λ (i : ℕ). reach image i s.ctx.root) g.ikey
@@ -421,7 +422,7 @@ module _ (image : List ℕ) (mode : StartMode) (X z : List ℕ) (wide : Wide mod
       -- the walk stands there
       stood : (j : ℕ)
           → Stood mode X p y g.whole g.bytes image s.ctx.depth leaf-at (route_n x n stop).1 j
-          → start_position mode image leaf-at s.ctx.cursor s.buf ≡ StartedAt (position j)
+          → start_position mode image leaf-at s.ctx.cursor s.buf ≡ Ok (StartedAt (position j))
           → BegunIn s p st (flat_n n stop)
       unfolding Nexts arrived leaf-at KnownAt
       stood j f e = record {
@@ -489,7 +490,7 @@ module _ (image : List ℕ) (mode : StartMode) (X z : List ℕ) (wide : Wide mod
             asc = f.inner;
           }
 
-          went_in : start_position mode image leaf-at s.ctx.cursor s.buf ≡ StartedEnter (slot_in image leaf-at j)
+          went_in : start_position mode image leaf-at s.ctx.cursor s.buf ≡ Ok (StartedEnter (slot_in image leaf-at j))
               → BegunIn inside (p ++ f.k) (frame p f.behind st) (flat_n f.node stop) → BegunIn s p st (flat_n n stop)
           unfolding Nexts above climb KnownAbove KnownAt inside fields_at
           went_in e b = record {
@@ -500,7 +501,7 @@ module _ (image : List ℕ) (mode : StartMode) (X z : List ℕ) (wide : Wide mod
             rep = record {
               to = inside;
               goes = enters s leaf-at (slot_in image leaf-at j) g.state reaches-leaf e
-                  ∙ ap (λ (q : ℕ). record { outcome = Continue; scan = entering s leaf-at q }) (sym f.slot.root);
+                  ∙ ap (λ (q : ℕ). record { outcome = Ok Continue; scan = entering s leaf-at q }) (sym f.slot.root);
               then = b.rep;
             };
             left =
@@ -518,7 +519,7 @@ module _ (image : List ℕ) (mode : StartMode) (X z : List ℕ) (wide : Wide mod
           → BegunIn t p' st' (flat_n n' stop)) → BegunIn s p st (flat_n n stop)
       one-layer ih = go refl found
         where
-          go : {o : Started} → start_position mode image leaf-at s.ctx.cursor s.buf ≡ o
+          go : {o : Result Started Decline} → start_position mode image leaf-at s.ctx.cursor s.buf ≡ o
               → Begins mode X p y g.whole g.bytes image s.ctx.depth leaf-at (route_n x n stop).1 o
               → BegunIn s p st (flat_n n stop)
           go e (stands_at_lem j f) = stood j f e

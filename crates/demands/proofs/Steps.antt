@@ -1,11 +1,11 @@
 -- Steps of a walk, and every list of them. Proved: a step lent the walk's image says the head of what is left, and one
 -- lent another length changes nothing; hence what a list of steps says and carries, and that its moves are no more than the
 -- potential. And one loop of moves counts as many keys as are left.
-use Rattle.std.specs.Prelude.{◌≡◌, ◌∷◌, ◌+◌, ◌≤◌}
+use Rattle.std.specs.Prelude.{◌≡◌, ◌∷◌, ◌+◌, ◌≤◌, None, Ok}
 use Rattle.base.specs.Kit.{refl, ap, ap₂, sym, ◌∙◌, subst, List, [], Bool, true, false, not, inl, inr, ℕ, arith, length, take, eq-eqb, ne_eqb}
 use Rattle.base.specs.Pick.{pick}
 use Rattle.cursor.specs.RangeBound.{contains}
-use Rattle.demands.specs.Types.{RangeBound, WalkStateFindNext as FindNext, Ended, HandedOut, Walk, Nothing, Stepped}
+use Rattle.demands.specs.Types.{RangeBound, WalkStateFindNext as FindNext, Ended, HandedOut, Walk, WalkRange, Stepped}
 use Rattle.layering.specs.Keys.{Pair}
 use Rattle.layering.specs.Depths.{depth_of}
 use Rattle.layering.specs.Ascending.{Ascending}
@@ -13,7 +13,7 @@ use Rattle.layering.proofs.Sieve.{front, front_passes}
 use Rattle.layering.proofs.Bound.{end-is-last}
 use Rattle.layering.proofs.Walk.{Conf, over, rest, KnownAt, left, pot}
 use Rattle.moves.specs.CodeMoves.{InRange}
-use Rattle.walk.specs.Walk.{number_of, keys_of, len_of, value_of, nothing_yet, one_more, walk_ok}
+use Rattle.walk.specs.Walk.{number_of, keys_of, len_of, value_of, nothing_yet, one_more, in_range, walk_ok}
 use Rattle.walk.proofs.NumberLaws.{fits-walk}
 use Rattle.scan.specs.Machine.{Scan, Ran, run, is_ended, ctx_of, scan_of, walk_of, declined_with, answered, finished, advance, step}
 use Rattle.scan.specs.CodeLoop.{run_by, all_by, keys_ahead, keys_left}
@@ -26,8 +26,8 @@ use Rattle.demands.proofs.Tally.{counts}
 
 -- ANOTHER LENGTH is declined, and the walk is as it came.
 pub other_length : (w : Walk) (lent : List ℕ) → (length lent ≡ w.image_len → ⊥)
-    → step w lent ≡ declined_with 21 w
-unfolding step walk_ok pick
+    → step w lent ≡ declined_with WalkRange w
+unfolding step walk_ok in_range pick
 other_length w lent h = rw (ne_eqb w.image_len (length lent) (λ e. h (sym e)))
 
 -- What a walk's bound admits.
@@ -144,9 +144,9 @@ module _ (image : List ℕ) (B : RangeBound) where
 
     -- A STEP is none where the walk is ended, and else what its run comes to.
     module _ (w : Walk) (c : Conf) (h : Walks w c) (k : pot c ≤ length image) (P : Stepped → Type 0)
-        (none : w.state ≡ Ended → c ≡ over → P (answered Nothing 0 w))
+        (none : w.state ≡ Ended → c ≡ over → P (answered (Ok None) 0 w))
         (runs : is_ended w.state ≡ false → (r : Ran) → Came image B.kind (take B.len B.key) c 0 r → P (finished w r)) where
-      in_stage : (d : Conf) → c ≡ d → Stage w d → P (pick (is_ended w.state) (answered Nothing 0 w) (advance w image))
+      in_stage : (d : Conf) → c ≡ d → Stage w d → P (pick (is_ended w.state) (answered (Ok None) 0 w) (advance w image))
       unfolding advance pick
       in_stage d q (ended e) = rw (ap is_ended e) (none e q)
       in_stage d q (going e rep) =

@@ -1,18 +1,18 @@
 -- From the placing to the row. Proved: what a placing that was taken says of its arguments; that the walk's bound
 -- admits what its argument does; and that what is left of a fresh walk is the row that demand 3 speaks of. Hence every
 -- list of steps, and the count of one loop of moves.
-use Rattle.std.specs.Prelude.{◌≡◌, ◌+◌, ◌*◌, ◌%◌, ◌≤◌, ◌<◌}
-use Rattle.base.specs.Kit.{refl, ap, sym, ◌∙◌, subst, List, [], Bool, true, false, not, ℕ, arith, ltb, eqb, length, take, get_or, replicate, ltb-false, eqb-true, eqb-false, not-true, not-false, le-ltb, eq-eqb, le-leb}
+use Rattle.std.specs.Prelude.{◌≡◌, ◌+◌, ◌*◌, ◌%◌, ◌≤◌, ◌<◌, None, Result, Ok, Err}
+use Rattle.base.specs.Kit.{refl, ap, sym, ◌∙◌, subst, List, [], Bool, true, false, ℕ, arith, ltb, eqb, length, take, get_or, replicate, eqb-true, le-ltb, eq-eqb, le-leb}
 use Rattle.base.specs.Pick.{pick}
 use Rattle.base.proofs.Choice.{pick_ind}
 use Rattle.key.specs.Part.{padded}
 use Rattle.key.proofs.Bytes.{bytes_of}
 use Rattle.key.proofs.Ikey.{padded-take}
 use Rattle.node.specs.Layout.{stated_length, edition}
-use Rattle.node.specs.Heading.{heading_fault, length_ok}
+use Rattle.node.specs.Heading.{heading, length_ok}
 use Rattle.cursor.specs.CursorKey.{from_slice}
 use Rattle.cursor.specs.RangeBound.{is_within, tested, contains, bound_of}
-use Rattle.demands.specs.Types.{RangeBound, Tested, StartMode, Above, From, WalkState, Placed}
+use Rattle.demands.specs.Types.{RangeBound, Tested, StartMode, Above, From, WalkState, Decline}
 use Rattle.layering.specs.Tree.{tree_of}
 use Rattle.layering.specs.Keys.{Pair, live_pairs, leaves_n, values_n, layers_n}
 use Rattle.layering.specs.Depths.{depth_of}
@@ -29,8 +29,10 @@ use Rattle.layering.proofs.Sieve.{front, front-sieve}
 use Rattle.layering.proofs.Asked.{past-ascends, row_in-order}
 use Rattle.layering.proofs.Bound.{contains-closed}
 use Rattle.layering.proofs.Walk.{Conf, seek, rest, left, pot}
+use Rattle.base.specs.Decline.{and_then}
 use Rattle.walk.specs.Walk.{nothing_yet}
-use Rattle.walk.specs.Placing.{short_state, start_state, place_fault, fresh_walk, place}
+use Rattle.walk.proofs.PlaceLaws.{placed-fits}
+use Rattle.walk.specs.Placing.{short_state, start_state, placing, fresh_walk, placed_by, place}
 use Rattle.scan.specs.Machine.{is_ended, scan_of}
 use Rattle.scan.specs.CodeLoop.{keys_left}
 use Rattle.demands.specs.Demand.{Call, steps, Lent, said, moves_of, own, due, Foreign}
@@ -45,39 +47,20 @@ pub record Limits (cursor : List ℕ) (kind : ℕ) (bound : List ℕ) : Type 0 w
   pub fits : length bound ≤ 256
 
 module _ (image : List ℕ) (mode : StartMode) (cursor : List ℕ) (kind : ℕ) (bound : List ℕ) where
-  limits : place_fault image cursor kind bound ≡ 0 → Limits cursor kind bound
-  unfolding place_fault
-  limits =
-      let P : ℕ → Type 0 = λ n. n ≡ 0 → Limits cursor kind bound in
-      let h : ℕ = heading_fault image in
-      pick_ind P (not (eqb h 0)) (λ t e. absurd (eqb-false h 0 (not-true (eqb h 0) t) e))
-      (λ t.
-      pick_ind P (ltb 256 (length cursor)) (λ u e. absurd (omega arith))
-      (λ u.
-      pick_ind P (ltb 2 kind) (λ v e. absurd (omega arith))
-      (λ v.
-      pick_ind P (ltb 256 (length bound)) (λ w e. absurd (omega arith))
-      (λ w e. record {
-        cursor-fits = ltb-false 256 (length cursor) u;
-        kinds = ltb-false 2 kind v;
-        fits = ltb-false 256 (length bound) w;
-      }))))
-
-  pub taken : (place image mode cursor kind bound).code ≡ 0
+  pub taken : (place image mode cursor kind bound).declined ≡ None
       → ((place image mode cursor kind bound).walk ≡ fresh_walk image mode cursor kind bound) × Limits cursor kind bound
   unfolding place
-  taken =
-      let f : ℕ = place_fault image cursor kind bound in
-      pick_ind
-      (λ (p : Placed). p.code ≡ 0 → (p.walk ≡ fresh_walk image mode cursor kind bound) × Limits cursor kind bound)
-      (not (eqb f 0))
-      (λ t e. absurd (eqb-false f 0 (not-true (eqb f 0) t) e))
-      (λ t e. (refl, limits (eqb-true f 0 (not-false (eqb f 0) t))))
+  taken = go (placing image cursor kind bound) refl
+    where
+      go : (r : Result Unit Decline) → placing image cursor kind bound ≡ r → (placed_by r (fresh_walk image mode cursor kind bound)).declined ≡ None
+          → ((placed_by r (fresh_walk image mode cursor kind bound)).walk ≡ fresh_walk image mode cursor kind bound) × Limits cursor kind bound
+      go (Ok seen) e n = let f = placed-fits image cursor kind bound e in (refl, record { cursor-fits = f.1; kinds = f.2; fits = f.3 })
+      go (Err d) e n = cc
 
 -- an accepted image has no fault in its heading, so that a placing within the limits is taken
 pub takes : (image : List ℕ) → Obeys image → (mode : StartMode) (cursor : List ℕ) (kind : ℕ) (bound : List ℕ)
-    → length cursor ≤ 256 → kind ≤ 2 → length bound ≤ 256 → (place image mode cursor kind bound).code ≡ 0
-unfolding place place_fault heading_fault length_ok pick
+    → length cursor ≤ 256 → kind ≤ 2 → length bound ≤ 256 → (place image mode cursor kind bound).declined ≡ None
+unfolding place placing heading length_ok and_then pick
 takes image o mode cursor kind bound c k f =
     rw (
       le-leb 440 (length image) o.long,

@@ -1,15 +1,15 @@
 -- A STATION LINE READ for a layer at depth d: what the layer has of its key stands in the reader's buffer.
-use Rattle.std.specs.Prelude.{◌≡◌, ◌++◌, ◌+◌, ◌*◌, ◌-◌, ◌≤◌}
+use Rattle.std.specs.Prelude.{◌≡◌, ◌++◌, ◌+◌, ◌*◌, ◌-◌, ◌≤◌, Option, Some}
+use Rattle.std.specs.Option.{is_some}
 use Rattle.base.specs.Kit.{sym, ap, subst, ◌∙◌, true, List, ℕ, min, arith, leb, leb-true, leb-false, length, drop, length-drop, drop_of_length-le, drop-length, sets, sets-eq, drop-append-le, take_at}
 use Rattle.base.proofs.Choice.{by_test}
 use Rattle.key.specs.Ikey.{ikey_of}
 use Rattle.key.specs.Part.{part}
 use Rattle.layering.specs.Keys.{Pair}
 use Rattle.layering.specs.Ascending.{All}
-use Rattle.reading.specs.Read.{got, station}
 use Rattle.reading.specs.CodeViews.{key_at, StationRead}
 use Rattle.reading.specs.declared.Line.{Line}
-use Rattle.reading.proofs.Pairs.{pairs-more, pairs-none, line-got}
+use Rattle.reading.proofs.Pairs.{pairs-more, station-some, line-got}
 use Rattle.groups.specs.CodeGroups.{OneLine, LoweredRead}
 
 -- a key k in a buffer, from its byte i on
@@ -29,32 +29,32 @@ drop_min k i =
     let n : length k ≤ i = omega (arith, leb-false i (length k) f) in
     rw e (drop-length k ∙ sym (drop_of_length-le k n)))
 
-module _ (s : List ℕ) (line : ℕ) (buf buf' : List ℕ) (r : Line) (R : StationRead s line buf buf' r) (O : OneLine s line) where
-  line_found : r.found ≡ true
-  line_found = by_test r.found (λ t. t) (λ f. absurd (omega (arith, O.whole, ap length (pairs-none s line buf buf' r R 0 f))))
+pub line-some : (s : List ℕ) (line : ℕ) (buf buf' : List ℕ) (r : Option Line) → StationRead s line buf buf' r → OneLine s line → is_some r ≡ true
+line-some s line buf buf' r R O = station-some s line 1 buf buf' r (omega arith) O.whole R
 
-  line-is : station (drop line s) ≡ got (record { key = key_at (drop line s); value = r.value }) (drop r.next s)
-  line-is = line-got s line buf buf' r R line_found
+module _ (s : List ℕ) (line : ℕ) (buf buf' : List ℕ) (o : Option Line) (R : StationRead s line buf buf' o) (O : OneLine s line) (r : Line) (e : o ≡ Some r) where
+  read : StationRead s line buf buf' (Some r)
+  read = rw e at R
 
   key-short : length (key_at (drop line s)) ≤ 256
-  key-short = (subst (All (λ (x : Pair). length x.key ≤ 256)) (pairs-more s line buf buf' r R 0 line_found) O.short).0
+  key-short = (subst (All (λ (x : Pair). length x.key ≤ 256)) (pairs-more s line buf buf' r read 0) O.short).0
 
   pub line-short : r.key_len ≤ 256
-  line-short = omega (arith, key-short, R.len line_found)
+  line-short = omega (arith, key-short, read.found.0)
 
   -- what the layer has of the key, as the code takes it from the buffer
-  pub line-lowered : (d from ikey : ℕ) (p : List ℕ) → length buf ≡ 256 → from ≡ min (8 * d) r.key_len → p ≡ part buf' from (r.key_len - from) → ikey ≡ ikey_of p
+  pub line-lowered : (d from ikey : ℕ) (p : List ℕ) → length buf ≡ 256 → from ≡ min r.key_len (8 * d) → p ≡ part buf' from (r.key_len - from) → ikey ≡ ikey_of p
       → LoweredRead s d line (record { ikey = ikey; len = r.key_len - from; value = r.value; next = r.next })
   line-lowered d from ikey p b f e i =
       let k : List ℕ = key_at (drop line s) in
-      let l : r.key_len ≡ length k = R.len line_found in
+      let l : r.key_len ≡ length k = read.found.0 in
       let c : from ≡ min (8 * d) (length k) = omega arith in
       let q : drop from k ≡ drop (8 * d) k = rw c (drop_min k (8 * d)) in
       let t : p ≡ drop (8 * d) k = e ∙ rw (R.kept, l) (stored_from k buf from (omega (arith, key-short)) (omega arith)) ∙ q in
       record {
-        is = line-is;
+        is = line-got s line buf buf' r read;
         ikey = i ∙ ap ikey_of t;
         len = omega (arith, length-drop from k, ap length q);
-        on = R.on line_found;
-        inside = R.inside;
+        on = read.found.1;
+        inside = read.found.2;
       }

@@ -1,6 +1,6 @@
 -- THE SIZE OF A LAYER, group by group: what is left, counted on from a tally, comes to the same as the whole; and the internodes over some
 -- leaves, level by level.
-use Rattle.std.specs.Prelude.{◌≡◌, ◌∷◌, ◌+◌, ◌*◌, ◌/◌, ◌-◌, ◌≤◌, ◌<◌}
+use Rattle.std.specs.Prelude.{◌≡◌, ◌∷◌, ◌+◌, ◌*◌, ◌/◌, ◌%◌, ◌-◌, ◌≤◌, ◌<◌}
 use Rattle.base.specs.Kit.{refl, sym, ap, ap₂, subst, ◌∙◌, Bool, true, false, List, [], map, ℕ, zero, suc, min, arith, leb, leb-true, leb-false, le-leb, lt-leb, ne_eqb, length, length-drop}
 use Rattle.base.specs.Pick.{pick}
 use Rattle.base.proofs.Choice.{by_test}
@@ -20,6 +20,10 @@ use Rattle.groups.specs.CodeSize.{capped, counted}
 use Rattle.groups.proofs.Lines.{lines-length, here, lines-first, one_line}
 use Rattle.groups.proofs.GroupLaws.{group_size, group-few, lines-below, fit_group, group-step}
 
+-- the next multiple of eight, as the library has it
+pub next_eight : (n : ℕ) → n + (8 - n % 8) % 8 ≡ (n + 7) / 8 * 8
+next_eight n = omega arith
+
 -- SUMS THAT ARE CAPPED
 pub capped_most : (r a : ℕ) → r ≡ capped a → r ≤ 16777217
 unfolding capped
@@ -35,11 +39,14 @@ internodes_enough (suc f) (suc g) n h k =
     by_test (leb n 1) (λ t. rw t) (λ e. rw e (ap (λ (m : ℕ). (n + 15) / 16 + m)
     (internodes_enough f g ((n + 15) / 16) (omega (arith, leb-false n 1 e)) (omega (arith, leb-false n 1 e)))))
 
-pub internodes-more : (n : ℕ) → 1 < n → internodes n n ≡ (n + 15) / 16 + internodes ((n + 15) / 16) ((n + 15) / 16)
+internodes-more : (n : ℕ) → 1 < n → internodes n n ≡ (n + 15) / 16 + internodes ((n + 15) / 16) ((n + 15) / 16)
 unfolding internodes pick
 internodes-more zero h = absurd (omega arith)
 internodes-more (suc n) h =
     rw (lt-leb (suc n) 1 h) (ap (λ (m : ℕ). (suc n + 15) / 16 + m) (internodes_enough n ((suc n + 15) / 16) ((suc n + 15) / 16) (omega arith) (omega arith)))
+
+pub level-more : (n m : ℕ) → 1 < n → m ≡ n / 16 + min 1 (n % 16) → internodes n n ≡ m + internodes m m
+level-more n m h e = let q : m ≡ (n + 15) / 16 = omega arith in rw q (internodes-more n h)
 
 pub internodes-none : (n : ℕ) → n ≤ 1 → internodes n n ≡ 0
 unfolding internodes pick

@@ -1,5 +1,5 @@
 -- THE TOP LAYER: it is given all pairs of a sheet, with their whole keys.
-use Rattle.std.specs.Prelude.{◌≡◌, ◌≤◌}
+use Rattle.std.specs.Prelude.{◌≡◌, ◌≤◌, Ok}
 use Rattle.base.specs.Kit.{sym, ap, subst, ◌∙◌, List, ℕ, arith, length, drop, map-id}
 use Rattle.key.proofs.Bytes.{bytes_of}
 use Rattle.layering.specs.Keys.{Pair}
@@ -8,7 +8,7 @@ use Rattle.layering.proofs.Row.{all_map}
 use Rattle.reading.specs.Form.{Sheet}
 use Rattle.reading.specs.Good.{GoodPair}
 use Rattle.reading.specs.Pairs.{pairs_in}
-use Rattle.reading.specs.Fault.{sheet, read_sheet}
+use Rattle.reading.specs.Fault.{read_sheet}
 use Rattle.reading.specs.Opened.{opened}
 use Rattle.reading.specs.declared.Opened.{Opened}
 use Rattle.reading.proofs.Pairs.{opened-sheet}
@@ -25,16 +25,16 @@ lines_top s line n = map-id (pairs_in n (drop line s))
 
 -- What is known of a sheet that was read.
 pub record TopFit (s : List ℕ) (r : Opened) (x : Sheet) : Type 0 where
-  pub is : read_sheet s ≡ sheet x
+  pub is : read_sheet s ≡ Ok x
   pub count : r.count ≡ length x.pairs
   pub pairs : lines_at s 0 r.line r.count ≡ x.pairs
   pub ascend : Ascending x.pairs
   pub fine : All Fine x.pairs
   pub fit : Fit s 31 r.line r.count
 
-pub top-fit : (s : List ℕ) (r : Opened) → r ≡ opened (read_sheet s) → r.number ≡ 0 → (x : Sheet) × TopFit s r x
-top-fit s r e z =
-    let o = opened-sheet s r e z in
+pub top-fit : (s : List ℕ) (r : Opened) → Ok r ≡ opened (read_sheet s) → (x : Sheet) × TopFit s r x
+top-fit s r e =
+    let o = opened-sheet s r e in
     let x : Sheet = o.0 in
     let d = read-text s x o.1.is in
     let a = rise_ascending x.pairs d.rise in

@@ -34,6 +34,16 @@ pub struct Group {
     pub behind: usize,
 }
 
+impl Group {
+    /// How many slots the group takes: one for each key that ends in the layer, and one for those that go on.
+    pub fn slots(self) -> usize
+        requires { self.shorts + min 1 self.longs < 18446744073709551616 }
+        ensures { result ≡ self.shorts + min 1 self.longs }
+    {
+        self.shorts + self.longs.min(1)
+    }
+}
+
 // The station line at a place of a sheet, as a layer at a depth has it.
 pub fn lowered_at(sheet: &[u8], line: usize, depth: usize) -> Lowered
     requires one_line { OneLine sheet.now line }
@@ -41,24 +51,15 @@ pub fn lowered_at(sheet: &[u8], line: usize, depth: usize) -> Lowered
     ensures { LoweredRead sheet.now depth line result }
 {
     let mut buf = [0u8; 256];
-    let r = station_at(sheet, line, &mut buf);
-    let from = least(8 * depth, r.key_len);
-    let len = r.key_len - from;
+    let read = station_at(sheet, line, &mut buf).unwrap();
+    let from = read.key_len.min(8 * depth);
+    let len = read.key_len - from;
     Lowered {
         ikey: ikey_of(part_of(&buf, from, len)),
-        len: len,
-        value: r.value,
-        next: r.next,
+        len,
+        value: read.value,
+        next: read.next,
     }
-}
-
-fn least(a: usize, b: usize) -> usize
-    ensures { result ≡ min a b }
-{
-    if a < b {
-        return a;
-    }
-    b
 }
 
 // The group that a line begins, among the `left` lines from there on of a layer that has `below` layers below it.
@@ -75,7 +76,7 @@ pub fn group_at(sheet: &[u8], line: usize, left: usize, below: usize) -> Group
         long_line: line,
         behind: line,
     };
-    while g.shorts + g.longs < left {
+    for _ in 0..left {
         let r = lowered_at(sheet, g.behind, depth);
         if r.ikey != first.ikey {
             break;
@@ -90,21 +91,18 @@ fn grown(g: Group, len: usize, next: usize) -> Group
     requires { g.shorts + g.longs < 18446744073709551615 }
     ensures { result ≡ grown g len next }
 {
-    if g.longs == 0 {
-        if len <= 8 {
-            return Group {
-                shorts: g.shorts + 1,
-                longs: 0,
-                long_line: next,
-                behind: next,
-            };
-        }
+    if g.longs == 0 && len <= 8 {
+        return Group {
+            shorts: g.shorts + 1,
+            long_line: next,
+            behind: next,
+            ..g
+        };
     }
     Group {
-        shorts: g.shorts,
         longs: g.longs + 1,
-        long_line: g.long_line,
         behind: next,
+        ..g
     }
 }
 
@@ -133,9 +131,9 @@ pub fn layer_size(sheet: &[u8], below: usize, line: usize, left: usize) -> usize
     while 0 < rest {
         let g = group_at(sheet, at, rest, below);
         let bytes = longs_size(sheet, below, g.long_line, g.longs);
-        t = counted(t, g.shorts + least(1, g.longs), bytes);
+        t = counted(t, g.slots(), bytes);
         at = g.behind;
-        rest = rest - (g.shorts + g.longs);
+        rest -= g.shorts + g.longs;
     }
     with_internodes(t)
 }
@@ -151,7 +149,7 @@ fn longs_size(sheet: &[u8], below: usize, line: usize, n: usize) -> usize
     }
     if n == 1 {
         let r = lowered_at(sheet, line, 31 - below);
-        return (r.len - 8 + 7) / 8 * 8;
+        return (r.len - 8).next_multiple_of(8);
     }
     layer_size(sheet, below - 1, line, n)
 }
@@ -164,18 +162,18 @@ fn counted(t: Tally, n: usize, bytes: usize) -> Tally
     requires bytes_bound_2 { bytes ≤ 16777217 }
     ensures { result ≡ counted t n bytes }
 {
-    let more = add_capped(t.bytes, bytes);
+    let bytes = add_capped(t.bytes, bytes);
     if n <= t.room {
         return Tally {
-            leaves: t.leaves,
             room: t.room - n,
-            bytes: more,
+            bytes,
+            ..t
         };
     }
     Tally {
         leaves: add_capped(t.leaves, 1),
         room: 15 - n,
-        bytes: add_capped(more, 400),
+        bytes: add_capped(bytes, 400),
     }
 }
 
@@ -197,7 +195,7 @@ fn internodes_over(leaves: usize) -> usize
     let mut n = leaves;
     let mut sum = 0;
     while 1 < n {
-        n = (n + 15) / 16;
+        n = n.div_ceil(16);
         sum += n;
     }
     sum
@@ -208,8 +206,5 @@ fn add_capped(a: usize, b: usize) -> usize
     requires { a + b < 18446744073709551616 }
     ensures { result ≡ capped (a + b) }
 {
-    if a + b < 16777217 {
-        return a + b;
-    }
-    16777217
+    (a + b).min(16777217)
 }

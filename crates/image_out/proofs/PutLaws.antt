@@ -1,24 +1,30 @@
 -- Numbers written into the output: what one turn of each loop adds. Assumes nothing.
-use Rattle.std.specs.Prelude.{◌≡◌, ◌%◌, ◌*◌, ◌+◌, ◌-◌, ◌/◌, ◌<◌, ◌≤◌}
-use Rattle.base.specs.Kit.{List, [], ℕ, add-one, arith, drop, get_or, length, set, drop-cons, paste-zero}
+use Rattle.std.specs.Prelude.{◌≡◌, ◌∷◌, ◌%◌, ◌*◌, ◌+◌, ◌-◌, ◌/◌, ◌^◌, ◌<◌, ◌≤◌}
+use Rattle.std.specs.Int.{w64, byte_at, bytes_low_first, to_le_bytes}
+use Rattle.base.specs.Kit.{◌∙◌, ap, ap₂, refl, sym, zero, suc, div-one, div-div-eq-div-mul, pow-suc, take, List, [], ℕ, add-one, arith, drop, get_or, length, drop-cons, paste-zero}
 use Rattle.base.proofs.Count.{left-more}
-use Rattle.sheet.proofs.Paste.{paste-append, paste-first}
+use Rattle.sheet.proofs.Paste.{paste-append}
 use Rattle.building.specs.Build.{le_bytes, words}
 use Rattle.building.specs.CodeWritten.{put}
 use Rattle.building.proofs.Stands.{le_bytes-length, words-length}
 
-module _ (out : List ℕ) (at n i : ℕ) where
-  pub le-more : (x : ℕ) → i < n → at + n ≤ length out
-      → put (set out (at + i) (x % 256)) (at + (i + 1)) (le_bytes (n - (i + 1)) (x / 256)) ≡ put out (at + i) (le_bytes (n - i) x)
-  unfolding le_bytes
-  le-more x h k =
-      let e : at + (i + 1) ≡ at + i + 1 = omega arith in
-      rw (left-more n i h, e)
-      (paste-first out (at + i) (x % 256) (le_bytes (n - (i + 1)) (x / 256)) (omega (arith, le_bytes-length (n - (i + 1)) (x / 256))))
+-- the library's bytes of a number, the lowest first, from byte i on
+byte_is : (i x : ℕ) → byte_at i x ≡ x / 256 ^ i % 256
+byte_is zero x = ap (λ (y : ℕ). y % 256) (sym (div-one x))
+byte_is (suc i) x = refl
 
-  pub le-none : (x : ℕ) → n ≤ i → out ≡ put out (at + i) (le_bytes (n - i) x)
-  unfolding le_bytes
-  le-none x h = let e : n - i ≡ 0 = omega arith in rw e (paste-zero out (at + i) [])
+bytes_are : (k i x : ℕ) → bytes_low_first i k x ≡ le_bytes k (x / 256 ^ i)
+unfolding le_bytes
+bytes_are zero i x = refl
+bytes_are (suc k) i x =
+    let e : x / 256 ^ suc i ≡ x / 256 ^ i / 256 = ap (λ (p : ℕ). x / p) (pow-suc 256 i) ∙ sym (div-div-eq-div-mul x (256 ^ i) 256) in
+    ap₂ (λ (y : ℕ) (l : List ℕ). y ∷ l) (byte_is i x) (bytes_are k (suc i) x ∙ ap (le_bytes k) e)
+
+pub eight_bytes : (x : ℕ) → to_le_bytes w64 x ≡ le_bytes 8 x
+eight_bytes x = bytes_are 8 0 x ∙ ap (le_bytes 8) (div-one x)
+
+pub four_bytes : (x : ℕ) → take 4 (to_le_bytes w64 x) ≡ le_bytes 4 x
+four_bytes x = bytes_are 4 0 x ∙ ap (le_bytes 4) (div-one x)
 
 -- words of w bytes, the next at `to`
 module _ (w : ℕ) (out row : List ℕ) (i at to : ℕ) where

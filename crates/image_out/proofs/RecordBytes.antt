@@ -1,6 +1,6 @@
--- What the code puts for a leaf, an internode, a padded suffix and the trailer, field by field, comes to the record's bytes, put at once.
+-- What the code puts for a leaf, an internode and the trailer, field by field, comes to the record's bytes, put at once.
 -- Assumes nothing.
-use Rattle.std.specs.Prelude.{◌≡◌, ◌++◌, ◌*◌, ◌+◌, ◌-◌, ◌/◌, ◌≤◌}
+use Rattle.std.specs.Prelude.{◌≡◌, ◌++◌, ◌+◌, ◌-◌, ◌≤◌}
 use Rattle.base.specs.Kit.{◌∙◌, ap, List, append_assoc, append-nil, map, ℕ, arith, length, length-append, replicate, flatten}
 use Rattle.layering.specs.Tree.{Fields}
 use Rattle.building.specs.Shape.{identity}
@@ -11,8 +11,8 @@ use Rattle.building.proofs.Stands.{le_bytes-length, words-length}
 use Rattle.building.proofs.Numbers.{mask_lt}
 use Rattle.image_out.specs.declared.LeafSlots.{LeafSlots}
 use Rattle.image_out.specs.declared.Children.{Children}
-use Rattle.image_out.specs.CodeRows.{row_of, slots_of, fresh_head, children_of, whole_words, trailer_bytes}
-use Rattle.image_out.proofs.PutRows.{Wrote, and_then, zero-bytes, low-bytes, words-padded}
+use Rattle.image_out.specs.CodeRows.{row_of, slots_of, fresh_head, children_of, trailer_bytes}
+use Rattle.image_out.proofs.PutRows.{Wrote, and_then, low-bytes, words-padded}
 
 row_words : (w n : ℕ) (xs : List ℕ) → words w n (row_of n xs) ≡ words w n xs
 unfolding row_of
@@ -78,12 +78,6 @@ module _ (out : List ℕ) (at : ℕ) where
       let w₃ = and_then w₂ (words 8 15 c.separators) 120 (words-length 8 15 c.separators) e₃ (omega arith) in
       let w₄ = and_then w₃ (words 8 16 c.nodes) 128 (words-length 8 16 c.nodes) e₄ (omega arith) in
       w₄.same ∙ ap (put out at) (internode-bytes c xs cs e l)
-
-  pub padded_puts : (s o₁ o₂ : List ℕ) (n m : ℕ) → length s ≡ n → (n + 7) / 8 * 8 - n ≡ m → at + (length s + 7) / 8 * 8 ≤ length out → o₁ ≡ put out at s
-      → o₂ ≡ put o₁ (at + n) (le_bytes m 0) → o₂ ≡ put out at (whole_words s)
-  padded_puts s o₁ o₂ n m l k h e₁ e₂ =
-      let w : Wrote out at o₁ s n = record { same = e₁; size = l } in
-      rw (l, k, ← zero-bytes m) (and_then w (le_bytes m 0) m (le_bytes-length m 0) e₂ (omega arith)).same
 
   pub trailer_puts : (root count : ℕ) (o₁ o₂ o₃ o₄ : List ℕ) → at + 32 ≤ length out → o₁ ≡ put out at (le_bytes 8 root) → o₂ ≡ put o₁ (at + 8) (le_bytes 8 count)
       → o₃ ≡ put o₂ (at + 16) (le_bytes 8 (at + 32)) → o₄ ≡ put o₃ (at + 24) (le_bytes 8 1) → o₄ ≡ put out at (trailer_bytes at root count)

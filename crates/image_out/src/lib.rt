@@ -17,6 +17,7 @@ ghost use Rattle.image_out.specs.CodeRows.{slots_of, HoldsSlots, fresh_head, chi
 use key::copy_in;
 
 // A leaf's slots so far: a row for each field, zero past them; the live mask, and the next slot's bit of it; how many there are.
+// Rows, and no array of slots: the leaf has these very rows, and each is written whole.
 #[derive(Clone, Copy)]
 pub struct LeafSlots {
     pub ikeys: [u64; 15],
@@ -29,6 +30,7 @@ pub struct LeafSlots {
 }
 
 // An internode's separators and children so far, zero past them; how many separators there are.
+// Rows, and no array of pairs: the internode has these very rows, and each is written whole; it has one child more than separators.
 #[derive(Clone, Copy)]
 pub struct Children {
     pub separators: [u64; 15],
@@ -36,18 +38,20 @@ pub struct Children {
     pub n: usize,
 }
 
-// The low n bytes of x into out from `at` on, the lowest first.
-pub fn put_le(out: &mut [u8], at: usize, n: usize, x: u64)
-    requires { at + n ≤ length out.old }
-    ensures { out.new ≡ put out.old at (le_bytes n x) }
+// A number of eight bytes into out from `at` on, the lowest first.
+pub fn put_u64(out: &mut [u8], at: usize, x: u64)
+    requires { at + 8 ≤ length out.old }
+    ensures { out.new ≡ put out.old at (le_bytes 8 x) }
 {
-    let mut rest = x;
-    let mut i = 0;
-    while i < n {
-        out[at + i] = (rest % 256) as u8;
-        rest = rest / 256;
-        i += 1;
-    }
+    copy_in(out, at, &x.to_le_bytes());
+}
+
+// The four low bytes of a number, the same way.
+fn put_low_half(out: &mut [u8], at: usize, x: u64)
+    requires { at + 4 ≤ length out.old }
+    ensures { out.new ≡ put out.old at (le_bytes 4 x) }
+{
+    copy_in(out, at, &x.to_le_bytes()[..4]);
 }
 
 // The numbers of a row as words of eight bytes into out from `at` on.
@@ -55,25 +59,14 @@ pub fn put_words(out: &mut [u8], at: usize, row: &[u64])
     requires { at + 8 * length row.now ≤ length out.old }
     ensures { out.new ≡ put out.old at (words 8 (length row.now) row.now) }
 {
-    let mut i = 0;
-    while i < row.len() {
-        put_le(out, at + 8 * i, 8, row[i]);
-        i += 1;
+    for (i, x) in row.iter().enumerate() {
+        put_u64(out, at + 8 * i, *x);
     }
 }
 
-// A leaf's or an internode's row of fifteen words.
-fn put_row(out: &mut [u8], at: usize, row: &[u64; 15])
-    requires { at + 120 ≤ length out.old }
-    ensures { out.new ≡ put out.old at (words 8 15 row.now) }
-{
-    put_words(out, at, row);
-}
-
 // A leaf's fifteen `keylenx` bytes and the zero byte behind them.
-fn put_lens(out: &mut [u8], at: usize, lens: &[u8])
-    requires at_in_bounds { at + 16 ≤ length out.old }
-    requires lens_len { length lens.now ≡ 15 }
+fn put_lens(out: &mut [u8], at: usize, lens: &[u8; 15])
+    requires { at + 16 ≤ length out.old }
     ensures { out.new ≡ put out.old at (words 1 15 lens.now ++ replicate 1 0) }
 {
     copy_in(out, at, lens);
@@ -100,28 +93,30 @@ fn mask_with(mask: u64, bit: u64, live: bool) -> u64
     requires { mask + bit < 65536 }
     ensures { result ≡ mask + pick live bit 0 }
 {
-    if live {
-        return mask + bit;
-    }
-    mask
+    if live { mask + bit } else { mask }
 }
 
 // The slots and one more behind them.
-pub fn add_slot(s: LeafSlots, ikey: u64, len: u8, value: u64, suffix: u64, live: bool) -> LeafSlots
+pub fn add_slot(
+    mut s: LeafSlots,
+    ikey: u64,
+    len: u8,
+    value: u64,
+    suffix: u64,
+    live: bool,
+) -> LeafSlots
     requires { HoldsSlots 14 s }
     ensures { (fs : List Fields) (f : Fields) → s ≡ slots_of fs → f.ikey ≡ ikey → f.keylenx ≡ len → f.value ≡ value
         → suffix_word f ≡ suffix → f.live ≡ live → result ≡ slots_of (fs ++ (f ∷ [])) }
 {
-    let n = s.n;
-    let mut t = s;
-    t.ikeys[n] = ikey;
-    t.lens[n] = len;
-    t.values[n] = value;
-    t.suffixes[n] = suffix;
-    t.mask = mask_with(s.mask, s.bit, live);
-    t.bit = s.bit * 2;
-    t.n = n + 1;
-    t
+    s.ikeys[s.n] = ikey;
+    s.lens[s.n] = len;
+    s.values[s.n] = value;
+    s.suffixes[s.n] = suffix;
+    s.mask = mask_with(s.mask, s.bit, live);
+    s.bit *= 2;
+    s.n += 1;
+    s
 }
 
 // A leaf's first sixteen bytes: the version with bit 31 alone, the live mask, the identity permutation with n used slots.
@@ -130,9 +125,9 @@ fn put_leaf_head(out: &mut [u8], at: usize, mask: u64, n: usize)
     requires n_bound { n ≤ 15 }
     ensures { out.new ≡ put out.old at (le_bytes 4 2147483648 ++ le_bytes 4 mask ++ le_bytes 8 (17134975606245761280 + n)) }
 {
-    put_le(out, at, 4, 2147483648);
-    put_le(out, at + 4, 4, mask);
-    put_le(out, at + 8, 8, 17134975606245761280 + (n as u64));
+    put_low_half(out, at, 2147483648);
+    put_low_half(out, at + 4, mask);
+    put_u64(out, at + 8, 17134975606245761280 + (n as u64));
 }
 
 // A leaf with these slots and no leaf behind it, from `at` on.
@@ -142,16 +137,12 @@ pub fn put_leaf(out: &mut [u8], at: usize, s: LeafSlots)
     ensures { (fs : List Fields) → s ≡ slots_of fs
         → out.new ≡ put out.old at (leaf_bytes (fresh_head at (length fs)) fs) }
 {
-    let ikeys = s.ikeys;
-    let lens = s.lens;
-    let values = s.values;
-    let suffixes = s.suffixes;
     put_leaf_head(out, at, s.mask, s.n);
-    put_row(out, at + 16, &ikeys);
-    put_lens(out, at + 136, &lens);
-    put_row(out, at + 152, &values);
-    put_row(out, at + 272, &suffixes);
-    put_le(out, at + 392, 8, 0);
+    put_words(out, at + 16, &s.ikeys);
+    put_lens(out, at + 136, &s.lens);
+    put_words(out, at + 152, &s.values);
+    put_words(out, at + 272, &s.suffixes);
+    put_u64(out, at + 392, 0);
 }
 
 // One child and no separator.
@@ -162,23 +153,21 @@ pub fn first_child(node: u64) -> Children
     nodes[0] = node;
     Children {
         separators: [0; 15],
-        nodes: nodes,
+        nodes,
         n: 0,
     }
 }
 
 // The children and one more behind them, with the separator before it.
-pub fn add_child(c: Children, separator: u64, node: u64) -> Children
+pub fn add_child(mut c: Children, separator: u64, node: u64) -> Children
     requires { c.n < 15 }
     ensures { (xs cs : List ℕ) → c ≡ children_of xs cs → length cs ≡ length xs + 1
         → result ≡ children_of (xs ++ (separator ∷ [])) (cs ++ (node ∷ [])) }
 {
-    let n = c.n;
-    let mut t = c;
-    t.separators[n] = separator;
-    t.nodes[n + 1] = node;
-    t.n = n + 1;
-    t
+    c.separators[c.n] = separator;
+    c.n += 1;
+    c.nodes[c.n] = node;
+    c
 }
 
 // An internode with these children, from `at` on.
@@ -186,12 +175,10 @@ pub fn put_internode(out: &mut [u8], at: usize, c: Children)
     requires { at + 256 ≤ length out.old }
     ensures { (xs cs : List ℕ) → c ≡ children_of xs cs → length xs ≤ 15 → out.new ≡ put out.old at (internode_row (length xs) xs cs) }
 {
-    let separators = c.separators;
-    let nodes = c.nodes;
-    put_le(out, at, 4, 0);
-    put_le(out, at + 4, 4, c.n as u64);
-    put_row(out, at + 8, &separators);
-    put_words(out, at + 128, &nodes);
+    put_low_half(out, at, 0);
+    put_low_half(out, at + 4, c.n as u64);
+    put_words(out, at + 8, &c.separators);
+    put_words(out, at + 128, &c.nodes);
 }
 
 // The layer's previous leaf, where there is one, names this one.
@@ -200,7 +187,7 @@ pub fn link(out: &mut [u8], prev: usize, leaf: usize)
     ensures { out.new ≡ linked prev leaf out.old }
 {
     if prev != 0 {
-        put_le(out, prev + 392, 8, leaf as u64);
+        put_u64(out, prev + 392, leaf as u64);
     }
 }
 
@@ -210,11 +197,10 @@ pub fn put_padded(out: &mut [u8], at: usize, s: &[u8]) -> usize
     ensures { (result ≡ at + (length s.now + 7) / 8 * 8)
         × (out.new ≡ put out.old at (whole_words s.now)) }
 {
-    let n = s.len();
-    let room = (n + 7) / 8 * 8;
+    let behind = at + s.len().next_multiple_of(8);
     copy_in(out, at, s);
-    put_le(out, at + n, room - n, 0);
-    at + room
+    out[at + s.len()..behind].fill(0);
+    behind
 }
 
 // The trailer of an image whose records end at `at`.
@@ -222,8 +208,8 @@ pub fn put_trailer(out: &mut [u8], at: usize, root: u64, count: u64)
     requires { at + 32 ≤ length out.old }
     ensures { out.new ≡ put out.old at (trailer_bytes at root count) }
 {
-    put_le(out, at, 8, root);
-    put_le(out, at + 8, 8, count);
-    put_le(out, at + 16, 8, (at + 32) as u64);
-    put_le(out, at + 24, 8, 1);
+    put_u64(out, at, root);
+    put_u64(out, at + 8, count);
+    put_u64(out, at + 16, (at + 32) as u64);
+    put_u64(out, at + 24, 1);
 }

@@ -5,100 +5,67 @@
 
 use cursor::range_bound::StartMode;
 use key::first;
-use requests::{item, line, put};
-use std::io::Read;
-use verify::Checked;
-use walk::scan_state::{Answer, HandedOut, Stepped, Walk};
-
-// The requests: more than there are.
-const MOST: usize = 1000;
+use requests::{KeyText, Requests};
+use std::{fmt, io};
+use walk::scan_state::{KeyOut, Walk};
 
 // Two spaces for each layer.
-fn indent(rt: &impl Print, depth: usize) {
-    for _ in 0..depth {
-        put(rt, b"  ");
+#[derive(Drop)]
+struct Indent(usize);
+
+impl fmt::Display for Indent {
+    fn fmt<W: fmt::Write>(&self, f: &mut fmt::Formatter<W>) -> fmt::Result {
+        for _ in 0..self.0 {
+            f.write_str("  ")?;
+        }
+        Ok(())
     }
-}
-
-// A key's line.
-fn key_line(rt: &impl Print, s: Stepped, len: usize, value: u64) {
-    let handed = s.handed;
-    let walk = s.walk;
-    let cursor = walk.cursor;
-    let buf = cursor.buf;
-    item(rt, b"", handed.count as u64);
-    put(rt, b" ");
-    indent(rt, handed.depth);
-    requests::put_pair(rt, first(&buf, len), value);
-}
-
-// The last line.
-fn end_line(rt: &impl Print, handed: HandedOut) {
-    item(rt, b"end depth ", handed.depth as u64);
-    item(rt, b" count ", handed.count as u64);
-    put(rt, b"\n");
 }
 
 // The keys of a walk, up to the first answer that is no key.
-fn keys(rt: &impl Print, walk: Walk, image: &[u8]) {
-    let mut w = walk;
+fn keys(rt: &impl Print, start: Walk, image: &[u8]) -> io::Result<()> {
+    let mut walk = start;
     for _ in 0..image.len() {
-        let s = scan::step::step(w, image);
-        let answer = s.answer;
-        w = s.walk;
-        match answer {
-            Answer::Key { len, value } => key_line(rt, s, len, value),
-            Answer::Nothing => {
-                end_line(rt, s.handed);
-                return;
+        let step = scan::step::step(walk, image);
+        let handed = step.handed;
+        walk = step.walk;
+        match step.answer {
+            Ok(Some(KeyOut { len, value })) => println!(rt;
+                "{} {}{} {value}",
+                handed.count,
+                Indent(handed.depth),
+                KeyText(first(&walk.cursor.buf, len))
+            )?,
+            Ok(None) => {
+                return println!(rt; "end depth {} count {}", handed.depth, handed.count);
             }
-            Answer::Declined(n) => {
-                line(rt, b"", b"declined ", n as usize);
-                return;
-            }
+            Err(decline) => return println!(rt; "declined {}", u8::from(decline)),
         }
     }
+    Ok(())
 }
 
 // An image's screen, or the check's number.
-fn screen(rt: &impl Print, image: &[u8]) {
-    let checked = verify::check_image(image);
-    match checked {
-        Checked::Accepted {
-            leaves: _,
-            value_slots: _,
-            sub_layers: _,
-        } => {
+fn screen(rt: &impl Print, image: &[u8]) -> io::Result<()> {
+    match verify::check_image(image) {
+        Ok(_) => {
             let placed = walk::placing::place(image, StartMode::From, b"", 0, b"");
-            keys(rt, placed.walk, image);
+            keys(rt, placed.walk, image)
         }
-        Checked::Declined(n) => line(rt, b"", b"refused ", n as usize),
+        Err(decline) => println!(rt; "refused {}", u8::from(decline)),
     }
 }
 
-// Reads one request and prints its screen; false at the end of the input.
-fn one(rt: &impl Print, input: &mut impl Read, image: &mut [u8]) -> bool {
-    let r = requests::read_request(input, image);
-    if !r.more {
-        return false;
+fn run(rt: &(impl Input + Print + AllocGlobal)) -> io::Result<()> {
+    for request in Requests::new(rt.alloc(), rt.reader()) {
+        let request = request?;
+        rt.println(&request.name)?;
+        screen(rt, &request.image)?;
     }
-    let name = r.name;
-    put(rt, first(&name, r.name_len));
-    put(rt, b"\n");
-    screen(rt, first(image, r.image_len));
-    true
+    Ok(())
 }
 
-fn all(rt: &impl Print, input: &mut impl Read, image: &mut [u8]) {
-    for _ in 0..MOST {
-        if !one(rt, input, image) {
-            return;
-        }
-    }
-}
-
+// An output that fails is passed over.
 fn main(rt: HostRuntime) {
-    let mut input = rt.reader();
-    let mut space = [0u8; 65536];
-    all(&rt, &mut input, &mut space);
+    let _ = run(&rt);
 }

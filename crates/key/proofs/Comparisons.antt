@@ -1,14 +1,14 @@
 -- Laws of a comparison by pieces: what one piece decides, and what is left where it decides nothing.
 use Rattle.std.specs.Prelude.{◌≡◌, ◌∷◌, ◌++◌, ◌+◌, ◌-◌, ◌*◌, ◌/◌, ◌%◌, ◌≤◌, ◌<◌}
-use Rattle.base.specs.Kit.{refl, sym, ◌∙◌, ap, List, [], ℕ, zero, suc, min, add-zero, zero-add, one-mul, sub-zero, append-nil, mul-zero, mul-suc, add-one, arith, length, get_or, take, drop, drop-cons, drop-drop, drop_of_length-le, length-drop, length-replicate, replicate, take_all}
+use Rattle.base.specs.Kit.{refl, sym, ◌∙◌, ap, ap₂, List, [], ℕ, zero, suc, min, add-zero, zero-add, one-mul, sub-zero, append-nil, mul-zero, mul-suc, add-one, arith, length, get_or, take, drop, drop-cons, drop-drop, drop_of_length-le, length-drop, length-replicate, replicate, take_all}
 use Rattle.base.proofs.Count.{left-more}
 use Rattle.key.specs.Order.{order, then, byte_order}
 use Rattle.key.specs.Comparisons.{widths, if_equal, through, compared_by, compared}
 use Rattle.key.specs.Part.{part}
 use Rattle.key.specs.Ikey.{be}
 use Rattle.key.specs.declared.Compared.{Compared}
-use Rattle.key.specs.declared.Ordering.{Ordering}
-use Rattle.key.specs.declared.Ordering.TheVariants.{Less, Equal, Greater}
+use Rattle.std.specs.declared.cmp.Ordering.{Ordering}
+use Rattle.std.specs.declared.cmp.Ordering.TheVariants.{Less, Equal, Greater}
 use Rattle.key.proofs.Order.{Cmp, is_lt, is_eq, is_gt, cmp, order_equal}
 use Rattle.key.proofs.Bytes.{Bytes, bytes_drop}
 use Rattle.key.proofs.Ikey.{order-be}
@@ -89,7 +89,7 @@ by_length a b m e = go (cmp (length a) (length b))
     go (is_gt h) = rw (drop-cons a m 0 (omega arith), drop_of_length-le b {i = m} (omega arith))
 
 -- What is left of a string, as a part of it.
-pub part-rest : (s : List ℕ) (at : ℕ) → part s at (length s - at) ≡ drop at s
+part-rest : (s : List ℕ) (at : ℕ) → part s at (length s - at) ≡ drop at s
 unfolding part
 part-rest s at = take_all (length s - at) (drop at s) (omega (arith, length-drop at s))
 
@@ -151,7 +151,7 @@ module _ (a b : List ℕ) (both : ℕ) (m : both ≡ min (length a) (length b)) 
   bytes_end i inv h = rw (← by_length a b both m) (rw (one-mul, add-zero) at (ends a b 1 both [] (by_bytes a b) i inv h))
 
 -- single bytes are compared no oftener than there are any
-pub bytes_most : (a b : List ℕ) → (by_bytes a b).comparisons ≤ length a
+bytes_most : (a b : List ℕ) → (by_bytes a b).comparisons ≤ length a
 unfolding compared_by
 bytes_most a b =
     let n : ℕ = min (length a) (length b) in
@@ -182,12 +182,21 @@ module _ (a b : List ℕ) (eights : ℕ) (m : eights ≡ min (length a) (length 
     pub eights_agree : x ≡ y → Left a b 8 eights (singles a b) (compared a b) (i + 1)
     eights_agree n = agrees a b 8 eights (singles a b) (compared a b) i inv h (omega arith) (omega arith) x y eight n
 
-  -- none is left: what single bytes make of the rest decides
-  pub eights_end : (i : ℕ) → Left a b 8 eights (singles a b) (compared a b) i → eights ≤ i
-      → (rest : Compared) → rest ≡ by_bytes (drop (8 * eights) a) (drop (8 * eights) b)
-      → record { order = rest.order; comparisons = eights + rest.comparisons } ≡ compared a b
-  unfolding compared_by
-  eights_end i inv h rest e =
-      let n : min (length (drop (8 * eights) a)) (length (drop (8 * eights) b)) ≡ min (length a) (length b) % 8 =
-      omega (arith, length-drop (8 * eights) a, length-drop (8 * eights) b) in
-      rw (e, n) (ends a b 8 eights (singles a b) (compared a b) i inv h)
+  -- what single bytes make of what is left behind the eights
+  module _ (rest : Compared) (e : rest ≡ by_bytes (part a (8 * eights) (length a - 8 * eights)) (part b (8 * eights) (length b - 8 * eights))) where
+    behind : rest ≡ by_bytes (drop (8 * eights) a) (drop (8 * eights) b)
+    behind = e ∙ ap₂ by_bytes (part-rest a (8 * eights)) (part-rest b (8 * eights))
+
+    -- it decides where no eight is left
+    pub eights_end : (i : ℕ) → Left a b 8 eights (singles a b) (compared a b) i → eights ≤ i
+        → record { order = rest.order; comparisons = eights + rest.comparisons } ≡ compared a b
+    unfolding compared_by
+    eights_end i inv h =
+        let n : min (length (drop (8 * eights) a)) (length (drop (8 * eights) b)) ≡ min (length a) (length b) % 8 =
+        omega (arith, length-drop (8 * eights) a, length-drop (8 * eights) b) in
+        rw (behind, n) (ends a b 8 eights (singles a b) (compared a b) i inv h)
+
+    -- all comparisons together are no more than there are bytes
+    pub eights_few : eights + rest.comparisons ≤ length a
+    eights_few =
+        omega (arith, ap (λ (r : Compared). r.comparisons) behind, bytes_most (drop (8 * eights) a) (drop (8 * eights) b), length-drop (8 * eights) a)

@@ -4,7 +4,7 @@
 use Rattle.std.specs.Prelude.{◌≡◌, ◌∷◌, ◌++◌, ◌+◌, ◌*◌, ◌/◌, ◌%◌, ◌^◌, ◌-◌, ◌≤◌, ◌<◌}
 use Rattle.base.specs.Kit.{refl, ap, sym, ◌∙◌, List, [], ℕ, zero, suc, min, mul-le-mul_right, one-le-pow, pow-suc, pow-succ', mul-add-div_right, div-eq_of_lt, mod-eq_of_lt, arith, mod-mul, length, take, drop, get_or, replicate, take-append-drop, length-append, length-replicate, length-take-le, take_at, take_all, take-append_seam}
 use Rattle.key.specs.Order.{order, byte_order}
-use Rattle.key.specs.declared.Ordering.{Ordering}
+use Rattle.std.specs.declared.cmp.Ordering.{Ordering}
 use Rattle.key.specs.Ikey.{be, ikey_of, digits, ikey_bytes}
 use Rattle.key.specs.Part.{padded}
 use Rattle.key.proofs.Order.{Cmp, is_lt, is_eq, is_gt, cmp, order_less, order_greater, order_equal, Lex, nil-lt, head-lt, tail-lt, lex_cmp, lex_gt, cmp-refl, cmp_prefix}
@@ -176,6 +176,13 @@ be-nil : (n : ℕ) → be n [] ≡ 0
 unfolding be
 be-nil zero = refl
 be-nil (suc n) = refl
+
+pub be-filled : (n m : ℕ) (s : List ℕ) → be n (s ++ replicate m 0) ≡ be n s
+unfolding be
+be-filled zero m s = refl
+be-filled (suc n) zero [] = refl
+be-filled (suc n) (suc m) [] = omega (arith, be-filled n m [], be-nil n)
+be-filled (suc n) m (a ∷ s) = ap (λ (x : ℕ). a * 256 ^ n + x) (be-filled n m s)
 
 pub be-zeros : (n m : ℕ) (d : List ℕ) → ((j : ℕ) → m ≤ j → get_or d j 0 ≡ 0) → be n (take m d) ≡ be n d
 unfolding be

@@ -1,13 +1,15 @@
 -- Laws of plain byte order: `cmp` and `cmpb` say what each answer of `order` and `byte_order` means, and `Lex`, the
 -- relation that proofs take apart, is a strict order that `byte_order` decides.
 use Rattle.std.specs.Prelude.{◌≡◌, ◌∷◌, ◌++◌, ◌≤◌, ◌<◌}
+use Rattle.std.specs.Ordering.{nat_cmp}
+use Rattle.std.proofs.lemmas.Bool.Decides.{nat_tests}
 use Rattle.base.specs.Kit.{refl, sym, ◌∙◌, subst, List, [], ℕ, arith, ltb, ltb-true, ltb-false}
 use Rattle.base.specs.Pick.{pick}
 use Rattle.base.proofs.Choice.{pick_ind}
 use Rattle.base.proofs.Tests.{tests}
 use Rattle.key.specs.Order.{order, then, byte_order}
-use Rattle.key.specs.declared.Ordering.{Ordering}
-use Rattle.key.specs.declared.Ordering.TheVariants.{Less, Equal, Greater}
+use Rattle.std.specs.declared.cmp.Ordering.{Ordering}
+use Rattle.std.specs.declared.cmp.Ordering.TheVariants.{Less, Equal, Greater}
 
 -- The three answers on numbers, with what each says.
 pub data Cmp (a b : ℕ) : Ordering → Type 0 where
@@ -105,3 +107,8 @@ pub cmp_prefix : (p a b : List ℕ) → byte_order (p ++ a) (p ++ b) ≡ byte_or
 unfolding byte_order then
 cmp_prefix [] a b = refl
 cmp_prefix (x ∷ p) a b = rw (order-refl x, cmp_prefix p a b)
+
+-- std's comparison of two numbers
+pub cmp-order : (a b : ℕ) → nat_cmp a b ≡ order a b
+unfolding order pick
+cmp-order a b = grind (arith, nat_tests)

@@ -1,4 +1,5 @@
 -- What one turn of a loop adds to the number that the first n bytes make: one byte more.
+use Rattle.std.specs.Int.{w64, from_be_bytes}
 use Rattle.std.specs.Prelude.{◌≡◌, ◌∷◌, ◌+◌, ◌*◌, ◌^◌, ◌≤◌, ◌<◌}
 use Rattle.base.specs.Kit.{ap, List, [], ℕ, zero, suc, pow-le-pow_right, pow-suc, mul_assoc, arith, get_or}
 use Rattle.key.specs.Ikey.{be}
@@ -16,3 +17,13 @@ be-more (suc n) (a ∷ s) = omega (arith, be-more n s, mul_assoc a (256 ^ n) 256
 -- eight bytes fit a u64
 pub be-fits : (n : ℕ) (s : List ℕ) → ((i : ℕ) → get_or s i 0 < 256) → n ≤ 8 → be n s < 2 ^ 64
 be-fits n s b h = omega (arith, be-lt n s (bytes_of s b), pow-le-pow_right {n = 256} (omega arith) {i = n} {j = 8} h)
+
+-- eight bytes as a plain sum, which is std's number of them
+eight : (s : List ℕ)
+    → get_or s 0 0 * 72057594037927936 + get_or s 1 0 * 281474976710656 + get_or s 2 0 * 1099511627776 + get_or s 3 0 * 4294967296
+    + get_or s 4 0 * 16777216 + get_or s 5 0 * 65536 + get_or s 6 0 * 256 + get_or s 7 0 ≡ be 8 s
+unfolding be
+eight s = omega (arith, be-more 7 s, be-more 6 s, be-more 5 s, be-more 4 s, be-more 3 s, be-more 2 s, be-more 1 s, be-more 0 s)
+
+pub be-eight : (s : List ℕ) → from_be_bytes w64 s ≡ be 8 s
+be-eight s = eight s

@@ -1,24 +1,18 @@
 -- Copies by words: eight bytes are a word, and a word may be copied over the end of what is copied already.
-use Rattle.std.specs.Prelude.{◌≡◌, ◌∷◌, ◌++◌, ◌+◌, ◌-◌, ◌*◌, ◌/◌, ◌%◌, ◌≤◌, ◌<◌}
-use Rattle.base.specs.Kit.{refl, sym, ◌∙◌, ap, List, [], append_assoc, append-nil, ℕ, zero, suc, min, zero-min, add-one, arith, length, get_or, drop-cons, take, drop, replicate, length-drop, paste, paste-zero, length-take-le, take-length, take-take, take-add, take-append-add, take-paste, drop-drop, drop-paste}
+use Rattle.std.specs.Prelude.{◌≡◌, ◌++◌, ◌+◌, ◌-◌, ◌≤◌}
+use Rattle.base.specs.Kit.{sym, ◌∙◌, ap, List, append_assoc, ℕ, min, zero-min, arith, length, take, drop, length-drop, paste, paste-zero, length-take-le, take-take, take-add, take-append-add, take-paste, drop-drop, drop-paste}
 use Rattle.key.specs.Part.{part}
-use Rattle.node.specs.Le.{le, u64_at}
-use Rattle.key.specs.Ikey.{be}
-use Rattle.key.specs.CodeWords.{paste_word, low_first}
-use Rattle.key.proofs.Ikey.{be_of-take}
+use Rattle.key.specs.CodeWords.{paste_word}
 
--- eight bytes that go through a word of their own
+-- eight bytes that go through a word p of their own
 module _ (s : List ℕ) (i : ℕ) {from : ℕ} {p : List ℕ} (long : 8 ≤ length s) (e : from ≡ min i (length s - 8)) (g : p ≡ part s from 8) where
   pub word-long : length p ≡ 8
   unfolding part
   word-long = rw g (length-take-le 8 (drop from s) (simp length-drop (omega arith)))
 
-  pub word_in : (d : List ℕ) (at : ℕ) {w b : List ℕ} → w ≡ paste (replicate 8 0) 0 p (length p) → b ≡ paste d (at + from) w (length w)
-      → b ≡ paste_word d at s i
+  pub word_in : (d : List ℕ) (at : ℕ) {b : List ℕ} → b ≡ paste d (at + from) p (length p) → b ≡ paste_word d at s i
   unfolding paste_word
-  word_in d at h k =
-      let whole : paste (replicate 8 0) 0 p (length p) ≡ p = rw (take-length, word-long, append-nil) in
-      k ∙ rw (h, whole, word-long, g, e)
+  word_in d at k = k ∙ rw (word-long, g, e)
 
 -- n are copied; m copied from i on, where i ≤ n ≤ i + m, make it i + m
 module _ (d s : List ℕ) (at n i m : ℕ) (fits : at + (i + m) ≤ length d) (enough : i + m ≤ length s) (low : i ≤ n) (high : n ≤ i + m) where
@@ -52,26 +46,3 @@ module _ (d s : List ℕ) (at : ℕ) (fits : at + length s ≤ length d) (long :
   four-words h p q r t =
       let all : min 32 (length s) ≡ length s = omega arith in
       rw all at (word_on 24 (word_on 16 (word_on 8 (word_on 0 (rw zero-min (paste-zero d at s)) p) q) r) t)
-
--- The bytes of a little-endian word, the lowest first, are those that it was read from; so the word turned is their number.
-module _ (s : List ℕ) (fits : (i : ℕ) → get_or s i 0 < 256) where
-  low-first : (n at : ℕ) → at + n ≤ length s → low_first n (le n s at) ≡ take n (drop at s)
-  unfolding low_first le
-  low-first zero at h = refl
-  low-first (suc n) at h =
-      let a = get_or s at 0 in
-      let x = le n s (at + 1) in
-      let low : (a + 256 * x) % 256 ≡ a = omega (arith, fits at) in
-      let high : (a + 256 * x) / 256 ≡ x = omega (arith, fits at) in
-      rw (low, high, low-first n (at + 1) (omega arith), drop-cons s at 0 (omega arith), add-one at)
-
-  pub turned_word : (at : ℕ) → at + 8 ≤ length s → be 8 (low_first 8 (u64_at s at)) ≡ be 8 (drop at s)
-  unfolding u64_at
-  turned_word at h = ap (be 8) (low-first 8 at h) ∙ be_of-take 8 (drop at s)
-
--- The number of eight bytes as a plain sum.
-pub eight_sum : (a b c d e f g h : ℕ)
-    → a * 72057594037927936 + b * 281474976710656 + c * 1099511627776 + d * 4294967296 + e * 16777216 + f * 65536 + g * 256 + h
-    ≡ be 8 (a ∷ b ∷ c ∷ d ∷ e ∷ f ∷ g ∷ h ∷ [])
-unfolding be
-eight_sum a b c d e f g h = omega arith

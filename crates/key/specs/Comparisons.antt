@@ -5,8 +5,8 @@ use Rattle.std.specs.Prelude.{◌∷◌, ◌++◌, ◌/◌, ◌%◌}
 use Rattle.base.specs.Kit.{List, [], ℕ, suc, min, length, take, drop, replicate}
 use Rattle.key.specs.Order.{byte_order}
 use Rattle.key.specs.declared.Compared.{Compared}
-use Rattle.key.specs.declared.Ordering.{Ordering}
-use Rattle.key.specs.declared.Ordering.TheVariants.{Less, Equal, Greater}
+use Rattle.std.specs.declared.cmp.Ordering.{Ordering}
+use Rattle.std.specs.declared.cmp.Ordering.TheVariants.{Less, Equal, Greater}
 
 -- How many bytes each comparison takes, of n that both keys have: "eight bytes at a time while both keys have eight left, then single
 -- bytes".

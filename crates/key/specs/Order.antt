@@ -2,8 +2,8 @@
 use Rattle.std.specs.Prelude.{◌∷◌}
 use Rattle.base.specs.Kit.{List, [], ℕ, ltb}
 use Rattle.base.specs.Pick.{pick}
-use Rattle.key.specs.declared.Ordering.{Ordering}
-use Rattle.key.specs.declared.Ordering.TheVariants.{Less, Equal, Greater}
+use Rattle.std.specs.declared.cmp.Ordering.{Ordering}
+use Rattle.std.specs.declared.cmp.Ordering.TheVariants.{Less, Equal, Greater}
 
 -- Two numbers compared.
 unfoldable pub order : ℕ → ℕ → Ordering

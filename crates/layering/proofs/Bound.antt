@@ -3,7 +3,7 @@ use Rattle.std.specs.Prelude.{◌≡◌, ◌∷◌}
 use Rattle.base.specs.Kit.{refl, sym, ◌∙◌, List, [], Bool, true, false, true≢false, ℕ, eqb}
 use Rattle.base.specs.Pick.{pick}
 use Rattle.key.specs.Order.{byte_order}
-use Rattle.key.specs.declared.Ordering.{Ordering}
+use Rattle.std.specs.declared.cmp.Ordering.{Ordering}
 use Rattle.key.proofs.Order.{Lex, lex_trans, CmpB, b_lt, b-eq, b_gt, cmpb, lex_gt, cmp_less}
 use Rattle.cursor.specs.RangeBound.{side_of, is_within, contains, at_end}
 use Rattle.cursor.proofs.Bound.{contains_by-order, at_end_only}

@@ -6,7 +6,7 @@ use Rattle.base.specs.Kit.{refl, List, [], Bool, true, false, ℕ, arith, length
 use Rattle.base.specs.Pick.{pick}
 use Rattle.key.specs.Ikey.{ikey_bytes}
 use Rattle.key.specs.Order.{byte_order}
-use Rattle.key.specs.declared.Ordering.TheVariants.{Less}
+use Rattle.std.specs.declared.cmp.Ordering.TheVariants.{Less}
 use Rattle.key.proofs.Order.{cmp-refl}
 use Rattle.key.proofs.Ikey.{ikey_bytes-length}
 use Rattle.layering.specs.Tree.{Node, leaf, internode, beyond, Kids, last, more, Slots, none, value, layer, tree_of}

@@ -5,7 +5,7 @@ use Rattle.std.specs.Prelude.{◌≡◌, ◌∷◌, ◌++◌, ◌+◌, ◌*◌, 
 use Rattle.base.specs.Kit.{refl, ◌∙◌, List, [], append_assoc, Bool, true, false, ℕ, suc, arith, length}
 use Rattle.key.specs.Order.{byte_order}
 use Rattle.key.specs.Ikey.{ikey_of}
-use Rattle.key.specs.declared.Ordering.TheVariants.{Less}
+use Rattle.std.specs.declared.cmp.Ordering.TheVariants.{Less}
 use Rattle.key.proofs.Order.{lex_prefix, lex_cmp}
 use Rattle.key.proofs.Bytes.{Bytes, bytes-append}
 use Rattle.key.proofs.Ikey.{rank, rank_lt, rank_below, rank_pos}

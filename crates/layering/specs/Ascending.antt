@@ -3,7 +3,7 @@
 use Rattle.std.specs.Prelude.{◌∷◌, ◌≡◌}
 use Rattle.base.specs.Kit.{List, []}
 use Rattle.key.specs.Order.{byte_order}
-use Rattle.key.specs.declared.Ordering.TheVariants.{Less}
+use Rattle.std.specs.declared.cmp.Ordering.TheVariants.{Less}
 use Rattle.layering.specs.Keys.{Pair}
 
 -- Every pair of the list has the property P.

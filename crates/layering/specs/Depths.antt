@@ -4,8 +4,8 @@ use Rattle.base.specs.Kit.{Bool, true, false, List, [], ℕ}
 use Rattle.base.specs.Pick.{pick}
 use Rattle.key.specs.Ikey.{ikey_bytes}
 use Rattle.key.specs.Order.{byte_order}
-use Rattle.key.specs.declared.Ordering.{Ordering}
-use Rattle.key.specs.declared.Ordering.TheVariants.{Less, Equal, Greater}
+use Rattle.std.specs.declared.cmp.Ordering.{Ordering}
+use Rattle.std.specs.declared.cmp.Ordering.TheVariants.{Less, Equal, Greater}
 use Rattle.layering.specs.Tree.{Node, leaf, internode, beyond, Kids, last, more, Slots, none, value, layer, tree_of}
 use Rattle.layering.specs.Keys.{own_bytes}
 

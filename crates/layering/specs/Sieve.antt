@@ -4,8 +4,8 @@ use Rattle.std.specs.Prelude.{◌∷◌}
 use Rattle.base.specs.Kit.{Bool, true, false, List, [], ℕ}
 use Rattle.base.specs.Pick.{pick}
 use Rattle.key.specs.Order.{byte_order}
-use Rattle.key.specs.declared.Ordering.{Ordering}
-use Rattle.key.specs.declared.Ordering.TheVariants.{Less, Equal, Greater}
+use Rattle.std.specs.declared.cmp.Ordering.{Ordering}
+use Rattle.std.specs.declared.cmp.Ordering.TheVariants.{Less, Equal, Greater}
 use Rattle.cursor.specs.RangeBound.{contains}
 use Rattle.cursor.specs.declared.range_bound.StartMode.{StartMode}
 use Rattle.cursor.specs.declared.range_bound.StartMode.TheVariants.{Above, From}

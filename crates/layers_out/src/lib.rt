@@ -6,7 +6,7 @@
 #![tactic(auto)]
 
 ghost use Rattle.std.specs.Prelude.{◌≡◌, ◌+◌, ◌*◌, ◌-◌, ◌^◌, ◌≤◌, ◌<◌};
-ghost use Rattle.base.specs.Kit.{List, [], min, length};
+ghost use Rattle.base.specs.Kit.{List, [], length};
 ghost use Rattle.layering.specs.Tree.{Fields};
 ghost use Rattle.layering.specs.Accepted.{end_n, end_s};
 ghost use Rattle.building.specs.Shape.{size_s};
@@ -23,7 +23,7 @@ use image_out::LeafSlots;
 use slots_out::Slotted;
 
 // How far a layer has come: the place reached in the output; the next station line, and how many of the layer's lines are left; the layer's
-// last leaf so far, 0 where it has none; and the subtree written last, its record's place and its first ikey.
+// last leaf so far, 0 where it has none, as a leaf's `next` says it; and the subtree written last, its record's place and its first ikey.
 #[derive(Clone, Copy)]
 pub struct Run {
     pub at: usize,
@@ -57,14 +57,15 @@ pub fn write_layer(
     ensures { LayerWrote out.old out.new at result (layer_at sheet.now below line left) }
 {
     let begin = Run {
-        at: at,
-        line: line,
-        left: left,
+        at,
+        line,
+        left,
         prev: 0,
         node: 0,
         first: 0,
     };
     let mut r = write_leaf(out, sheet, below, begin);
+    // No range for h: how high the layer is shows only where no line is left.
     let mut h = 0;
     while 0 < r.left {
         r = write_internode(out, sheet, below, h, r);
@@ -83,23 +84,19 @@ fn write_internode(out: &mut [u8], sheet: &[u8], below: usize, h: usize, r: Run)
 {
     let mut c = image_out::first_child(r.node as u64);
     let mut q = r;
-    let mut i: usize = 0;
-    while i < 15 {
+    for _ in 0..15_usize {
         if q.left == 0 {
             break;
         }
         q = write_subtree(out, sheet, below, h, q);
         c = image_out::add_child(c, q.first, q.node as u64);
-        i += 1;
     }
     image_out::put_internode(out, q.at, c);
     Run {
         at: q.at + 256,
-        line: q.line,
-        left: q.left,
-        prev: q.prev,
         node: q.at,
         first: r.first,
+        ..q
     }
 }
 
@@ -127,17 +124,15 @@ fn write_leaf(out: &mut [u8], sheet: &[u8], below: usize, r: Run) -> Run
     ensures { Wrote sheet.now below 1 out.old out.new r result (leaf_at sheet.now below r.line r.left) }
 {
     let p = write_groups(out, sheet, below, r.at, r.line, r.left);
-    let slots = p.slots;
-    image_out::put_leaf(out, p.at, slots);
+    image_out::put_leaf(out, p.at, p.slots);
     image_out::link(out, r.prev, p.at);
-    let ikeys = slots.ikeys;
     Run {
         at: p.at + 400,
         line: p.line,
         left: p.left,
         prev: p.at,
         node: p.at,
-        first: ikeys[0],
+        first: p.slots.ikeys[0],
     }
 }
 
@@ -156,38 +151,25 @@ fn write_groups(
     ensures { GroupsLaid sheet.now below line left out.new result (laid (record { out = out.old; at = at; fields = [] }) (filled 15 (slots_at sheet.now below line left))) }
 {
     let mut p = Parts {
-        at: at,
-        line: line,
-        left: left,
+        at,
+        line,
+        left,
         slots: image_out::no_slots(),
     };
     while 0 < p.left {
         let g = groups::group_at(sheet, p.line, p.left, below);
-        let slots = p.slots;
-        if 15 < slots.n + slot_count(g) {
+        if 15 < p.slots.n + g.slots() {
             return p;
         }
-        let q = write_group(out, sheet, below, p.line, p.left, g, p.at, slots);
-        let more = q.slots;
+        let q = write_group(out, sheet, below, p.line, p.left, g, p.at, p.slots);
         p = Parts {
             at: q.at,
             line: g.behind,
             left: p.left - (g.shorts + g.longs),
-            slots: more,
+            slots: q.slots,
         };
     }
     p
-}
-
-// How many slots a group takes.
-fn slot_count(g: Group) -> usize
-    requires { g.shorts ≤ 15 }
-    ensures { result ≡ g.shorts + min 1 g.longs }
-{
-    if g.longs == 0 {
-        return g.shorts;
-    }
-    g.shorts + 1
 }
 
 // One group among the lines that are left: its short keys, and a suffix or a layer for those that go on.
@@ -212,7 +194,7 @@ fn write_group(
 {
     let s = slots_out::add_shorts(sheet, line, g.shorts, 31 - below, slots);
     if g.longs == 0 {
-        return Slotted { at: at, slots: s };
+        return Slotted { at, slots: s };
     }
     if g.longs == 1 {
         return slots_out::add_suffix(out, at, sheet, g.long_line, 31 - below, s);

@@ -1,10 +1,11 @@
 -- THE WHOLE SHEET: for every image, the lines of `open` and `next_line` together are the definition's sheet, however many more are asked
 -- for. The idea of the proof: what the walk's steps say is demand 3's row and then none, so each step's line is the next of the sheet;
 -- and demand 3's bound on the moves keeps their sum from wrapping.
-use Rattle.std.specs.Prelude.{◌≡◌, ◌∷◌, ◌++◌, ◌+◌, ◌^◌, ◌≤◌, ◌<◌}
-use Rattle.base.specs.Kit.{refl, sym, ap, ◌∙◌, subst, Bool, true, List, [], append_assoc, append-nil, ℕ, zero, suc, zero-add, add-one, mod-eq_of_lt, arith, eqb, length, get_or, replicate, eqb-true}
+use Rattle.std.specs.Prelude.{◌≡◌, ◌∷◌, ◌++◌, ◌+◌, ◌^◌, ◌≤◌, ◌<◌, Option, Some, None, Result, Ok, Err}
+use Rattle.base.specs.Kit.{refl, sym, ap, ◌∙◌, subst, Bool, true, List, [], append_assoc, append-nil, ℕ, zero, suc, zero-add, add-one, mod-eq_of_lt, arith, length, take, get_or, replicate, ne_eqb}
 use Rattle.base.specs.Pick.{pick}
-use Rattle.base.proofs.Choice.{by_test}
+use Rattle.base.specs.Decline.{number_of as decline_number}
+use Rattle.base.proofs.Declines.{never-zero}
 use Rattle.node.specs.Layout.{key_count}
 use Rattle.layering.specs.Keys.{Pair, live_pairs}
 use Rattle.layering.specs.Ascending.{All}
@@ -16,18 +17,44 @@ use Rattle.cursor.specs.RangeBound.{contains}
 use Rattle.verify.specs.Check.{check_number, check}
 use Rattle.verify.specs.Acceptance.{tree_counts}
 use Rattle.verify.proofs.Theorem.{accepted_obeys}
+use Rattle.walk.specs.Walk.{number_of, keys_of, len_of, value_of}
 use Rattle.walk.specs.Placing.{place}
 use Rattle.scan.specs.Machine.{step}
 use Rattle.lent.specs.Form.{step_as}
-use Rattle.demands.specs.Demand.{steps, calls_of, Said, hands_out, none, said_by, said, moves_of, head_said, tail_of, due}
+use Rattle.demands.specs.Demand.{steps, calls_of, Said, hands_out, none, declines, said_by, said, moves_of, head_said, tail_of, due}
 use Rattle.demands.proofs.Calls.{own-lent, own_calls}
 use Rattle.demands.proofs.Demand.{demand-3, is-taken}
 use Rattle.sheet.specs.Sheet.{first_line, pair_line, pair_lines, last_line, sheet, refused}
-use Rattle.listed.specs.Types.{From, Walk, Listing, First, Pairs, Refused, Done}
-use Rattle.listed.specs.CodeLines.{line_of, no_line, begun, opened, sum_of, said_line, line_at, next_line}
-use Rattle.listed.specs.Listed.{listed_pairs, walk_moves, listed, line_count, lines_of, text_of, line_numbers, Filled, AllLines}
+use Rattle.listed.specs.Types.{Decline, From, Counts, KeyOut, Stepped, Walk, Line, Listing, Stage, First, Pairs, Refused, Done}
+use Rattle.listed.specs.CodeLines.{line_of, begun, opened_as, opened, sum_of, answer_line, line_at, next_line}
+use Rattle.listed.specs.Listed.{listed_pairs, walk_moves, listed, line_count, left_by, lines_of, line_text, text_of, line_number, line_numbers, HasBytes, Filled, AllLines}
 use Rattle.listed.proofs.Few.{few-lines}
 use Rattle.listed.proofs.Fits.{Fits, written-len, written-text, first_fits, last_fits, refused-fits, pair_fits}
+
+-- what is said, by the answer
+module _ (l : Listing) (s : Stepped) where
+  abbrev Line-of : List ℕ → Stage → Result (Option Line) Decline
+  Line-of text stage = Ok (Some (line_of text (record { stage = stage; moves = sum_of l s; walk = s.walk })))
+
+  said-pair : (a : Result (Option KeyOut) Decline) → s.answer ≡ a → (x : Pair) → said_by s ≡ hands_out x → answer_line l s a ≡ Line-of (pair_line x) Pairs
+  unfolding answer_line said_by number_of keys_of len_of value_of pick
+  said-pair (Ok (Some k)) f x e =
+      let g : hands_out (record { key = take k.len s.walk.cursor.buf; value = k.value }) ≡ hands_out x = rw f at e in
+      let y : record { key = take k.len s.walk.cursor.buf; value = k.value } ≡ x = cc in
+      ap (λ (z : Pair). Line-of (pair_line z) Pairs) y
+  said-pair (Ok None) f x e = let g : none ≡ hands_out x = rw f at e in absurd cc
+  said-pair (Err d) f x e =
+      let g : declines (decline_number d) ≡ hands_out x = rw (f, ne_eqb (decline_number d) 0 (never-zero d)) at e in
+      absurd cc
+
+  said-none : (a : Result (Option KeyOut) Decline) → s.answer ≡ a → said_by s ≡ none → answer_line l s a ≡ Line-of (last_line (sum_of l s)) Done
+  unfolding answer_line said_by number_of keys_of len_of value_of pick
+  said-none (Ok (Some k)) f e =
+      let g : hands_out (record { key = take k.len s.walk.cursor.buf; value = k.value }) ≡ none = rw f at e in absurd cc
+  said-none (Ok None) f e = refl
+  said-none (Err d) f e =
+      let g : declines (decline_number d) ≡ none = rw (f, ne_eqb (decline_number d) 0 (never-zero d)) at e in
+      absurd cc
 
 -- A key of at most 256 bytes.
 abbrev Short : Pair → Type 0
@@ -42,7 +69,7 @@ module _ (image : List ℕ) where
 
   -- nothing behind the end
   done : (n m : ℕ) (w : Walk) → Comes 0 n (record { stage = Done; moves = m; walk = w }) []
-  unfolding lines_of text_of line_numbers Filled next_line line_at no_line
+  unfolding lines_of left_by line_text text_of line_number line_numbers Filled next_line line_at
   done zero m w = record { text-is = refl; numbers_are = refl; filled_are = tt }
   done (suc n) m w = record {
     text-is = (done n m w).text-is;
@@ -51,9 +78,9 @@ module _ (image : List ℕ) where
   }
 
   -- a line more in front
-  more : (k n : ℕ) (l to : Listing) (text rest : List ℕ) → Fits text → next_line l image ≡ line_of text to → Comes k n to rest
+  more : (k n : ℕ) (l to : Listing) (text rest : List ℕ) → Fits text → next_line l image ≡ Ok (Some (line_of text to)) → Comes k n to rest
       → Comes (suc k) (suc n) l (text ++ rest)
-  unfolding lines_of text_of line_numbers Filled line_of
+  unfolding lines_of left_by line_text text_of line_number line_numbers HasBytes Filled line_of
   more k n l to text rest f e c = record {
     text-is = rw e (rw (written-text text f, c.text-is));
     numbers_are = rw e (ap {B = List ℕ} (λ t. 0 ∷ t) c.numbers_are);
@@ -69,14 +96,14 @@ module _ (image : List ℕ) where
   -- A STEP'S LINE, by what it says
   module _ (m : ℕ) (w : Walk) (h : m + (step w image).moves < 2 ^ 64) where
     next-pair : (x : Pair) → said_by (step w image) ≡ hands_out x → next_line (record { stage = Pairs; moves = m; walk = w }) image
-        ≡ line_of (pair_line x) (record { stage = Pairs; moves = m + (step w image).moves; walk = (step w image).walk })
-    unfolding next_line line_at said_line
-    next-pair x e = rw (e, not_wrapped m w h)
+        ≡ Ok (Some (line_of (pair_line x) (record { stage = Pairs; moves = m + (step w image).moves; walk = (step w image).walk })))
+    unfolding next_line line_at
+    next-pair x e = said-pair _ (step w image) (step w image).answer refl x e ∙ rw (not_wrapped m w h)
 
     next_last : said_by (step w image) ≡ none → next_line (record { stage = Pairs; moves = m; walk = w }) image
-        ≡ line_of (last_line (m + (step w image).moves)) (record { stage = Done; moves = m + (step w image).moves; walk = (step w image).walk })
-    unfolding next_line line_at said_line
-    next_last e = rw (e, not_wrapped m w h)
+        ≡ Ok (Some (line_of (last_line (m + (step w image).moves)) (record { stage = Done; moves = m + (step w image).moves; walk = (step w image).walk })))
+    unfolding next_line line_at
+    next_last e = said-none _ (step w image) (step w image).answer refl e ∙ rw (not_wrapped m w h)
 
   -- What the steps over a row say, to the first none; how many lines they make, and n more.
   ends : List Pair → List Said
@@ -143,11 +170,11 @@ module _ (image : List ℕ) where
       (more _ _ _ _ _ _ (first_fits (key_count image)) refl (rw z at ih))
 
   -- A DECLINED ONE
-  declined_come : (number n : ℕ) → Comes 1 (suc n) (begun (Refused number) image) (refused number)
+  declined_come : (d : Decline) (n : ℕ) → Comes 1 (suc n) (begun (Refused d) image) (refused (decline_number d))
   unfolding next_line line_at begun
-  declined_come number n =
-      subst (Comes 1 (suc n) (begun (Refused number) image)) (append-nil (refused number))
-      (more 0 n _ _ _ _ (refused-fits number) refl (done n 0 (place image From [] 0 []).walk))
+  declined_come d n =
+      subst (Comes 1 (suc n) (begun (Refused d) image)) (append-nil (refused (decline_number d)))
+      (more 0 n _ _ _ _ (refused-fits (decline_number d)) refl (done n 0 (place image From [] 0 []).walk))
 
   finish : (n : ℕ) (l : Listing) (k m : ℕ) (text : List ℕ) → opened image ≡ l → line_count image ≡ k → listed image ≡ text
       → m ≡ line_count image + n → Comes k m l text → AllLines image n
@@ -160,14 +187,18 @@ module _ (image : List ℕ) where
 
 -- THE THEOREM, of any image of bytes and any number of calls past its sheet's end.
 pub all_lines : (image : List ℕ) → ((i : ℕ) → get_or image i 0 < 256) → (n : ℕ) → AllLines image n
-unfolding opened line_count listed pick
-all_lines image b n =
-    let row = listed_pairs image in
-    by_test (eqb (check_number (check image)) 0)
-    (λ t.
-    let k : line_count image ≡ suc (count image row 0) = rw t (omega (arith, count-is image row 0)) in
-    finish image n _ _ (suc (count image row n)) _ (rw t) k (rw t) (omega (arith, count-is image row n, count-is image row 0))
-    (accepted_come image b (eqb-true _ 0 t) n))
-    (λ f.
-    let k : line_count image ≡ 1 = rw f in
-    finish image n _ _ (suc n) _ (rw f) k (rw f) (omega arith) (declined_come image (check_number (check image)) n))
+unfolding opened opened_as line_count listed check_number pick
+all_lines image b n = go (check image) refl
+  where
+    row : List Pair
+    row = listed_pairs image
+
+    go : (r : Result Counts Decline) → check image ≡ r → AllLines image n
+    go (Ok c) e =
+        let k : line_count image ≡ suc (count image row 0) = rw e (omega (arith, count-is image row 0)) in
+        finish image n _ _ (suc (count image row n)) _ (rw e) k (rw e) (omega (arith, count-is image row n, count-is image row 0))
+        (accepted_come image b (rw e) n)
+    go (Err d) e =
+        let z = ne_eqb (decline_number d) 0 (never-zero d) in
+        let k : line_count image ≡ 1 = rw (e, z) in
+        finish image n _ _ (suc n) _ (rw e) k (rw (e, z)) (omega arith) (declined_come image d n)

@@ -1,16 +1,16 @@
 -- What the fast path cites: `fast_facts`, what an answer of `fast_slot` says of the image; `fast-next`, that FindNext then comes to what
 -- handing out that slot's key does.
-use Rattle.std.specs.Prelude.{◌≡◌, ◌≤◌, ◌<◌}
+use Rattle.std.specs.Prelude.{◌≡◌, ◌≤◌, ◌<◌, Result, Ok, Option, Some, None}
 use Rattle.base.specs.Kit.{refl, ◌∙◌, ap, Bool, true, false, and-eq-true_iff, List, ℕ, arith, leb-true, ltb-true, lt-leb, le-ltb, leb, ltb}
 use Rattle.base.specs.Pick.{pick}
 use Rattle.node.specs.Permuter.{size_of}
 use Rattle.node.specs.Layout.{permutation_at, ikey_at, live_at}
-use Rattle.moves.specs.Types.{Position, Slot, CursorPlace, FastSlotAt as At, Slow, NextKey, Out, Past, Side, Inside, AtEnd, SidePast, Duplicate, No, ScanCtx, Emit, Exhausted, Pass}
+use Rattle.moves.specs.Types.{Decline, Position, Slot, CursorPlace, NextKey, Out, Past, Side, Inside, AtEnd, SidePast, ScanCtx, Emit, Exhausted, Pass}
 use Rattle.search.specs.Traversal.{leaf_there}
 use Rattle.search.specs.Helper.{slot_in}
 use Rattle.search.proofs.TraversalLaws.{not_second}
 use Rattle.moves.specs.Moves.{Taken, onward, is_storable, key_place, key_buf, outcome_on, hand_out, emit_key, take_key, take_slot, unless_dup, find_slot, find_next}
-use Rattle.moves.specs.CodeFastPath.{fast_slot, next_on, next_of, next_key}
+use Rattle.moves.specs.CodeFastPath.{outcome_of, fast_slot, next_on, next_of, next_key}
 
 -- THE SLOT THAT IS FAST: its position is in use, its ikey is not below the cursor's, and its key is live and can be stored.
 pub record Fast (image : List ℕ) (leaf : ℕ) (p : Position) (k : CursorPlace) (s : Slot) : Type 0 where
@@ -28,10 +28,10 @@ module _ (image : List ℕ) (leaf : ℕ) (p : Position) (k : CursorPlace) where
   abbrev size : ℕ
   size = size_of (permutation_at image leaf)
 
-  pub fast_facts : (s : Slot) → fast_slot image leaf p k ≡ At s → Fast image leaf p k s
+  pub fast_facts : (s : Slot) → fast_slot image leaf p k ≡ Some s → Fast image leaf p k s
   unfolding fast_slot
   fast_facts s e =
-      let slow : Slow ≡ At s → ⊥ = λ u. let z : ◌≡◌ {A = ℕ} 0 1 = cc in omega arith in
+      let slow : ◌≡◌ {A = Option Slot} None (Some s) → ⊥ = λ u. cc in
       let storable = is_storable image leaf here k.offset in
       let t = not_second _ _ _ _ slow e in
       let a = (and-eq-true_iff (ltb p.0 size) _).0 t.0 in
@@ -54,6 +54,18 @@ unfoldable pub pass_of : ScanCtx → NextKey → Pass
 pass_of c (Out k value last) = record { outcome = Emit value last; ctx = onward c k k.ikey }
 pass_of c (Past k) = record { outcome = Exhausted; ctx = onward c k k.ikey }
 
+-- the same as code has it, with the outcome of a key
+on_next : (side : Side) (k : CursorPlace) (value : ℕ) → outcome_of (next_on side k value) ≡ outcome_on side value
+unfolding outcome_of outcome_on next_on
+on_next Inside k value = refl
+on_next AtEnd k value = refl
+on_next SidePast k value = refl
+
+pub outcome_is : (image : List ℕ) (kind : ℕ) (bound buf : List ℕ) (c : ScanCtx) (s : Slot) (k : CursorPlace) (o : NextKey)
+    → o ≡ next_of image kind bound buf c.leaf s k → outcome_of o ≡ (hand_out image kind bound buf c s k).outcome
+unfolding next_of hand_out
+outcome_is image kind bound buf c s k o e = rw e (on_next _ k _)
+
 on_side : (c : ScanCtx) (side : Side) (k : CursorPlace) (value : ℕ)
     → record { outcome = outcome_on side value; ctx = onward c k k.ikey } ≡ pass_of c (next_on side k value)
 unfolding outcome_on next_on pass_of
@@ -69,11 +81,11 @@ module _ (image : List ℕ) (kind : ℕ) (bound buf : List ℕ) (c : ScanCtx) wh
   abbrev buf_of : Slot → List ℕ
   buf_of s = key_buf image c.leaf s c.cursor.offset buf
 
-  not-due : (due : Bool) (o : Duplicate) (new : Taken) → due ≡ false → unless_dup (pick due o No) buf c new ≡ new
+  not-due : (due : Bool) (o : Result Bool Decline) (new : Taken) → due ≡ false → unless_dup (pick due o (Ok false)) buf c new ≡ new
   unfolding pick unless_dup
   not-due due o new d = rw d
 
-  module _ (there : leaf_there image c.leaf ≡ true) (d : c.dup ≡ false) (l : c.last ≡ c.cursor.ikey) (s : Slot) (e : fast_slot image c.leaf c.position c.cursor ≡ At s) where
+  module _ (there : leaf_there image c.leaf ≡ true) (d : c.dup ≡ false) (l : c.last ≡ c.cursor.ikey) (s : Slot) (e : fast_slot image c.leaf c.position c.cursor ≡ Some s) where
     facts : Fast image c.leaf c.position c.cursor s
     facts = fast_facts image c.leaf c.position c.cursor s e
 
@@ -83,7 +95,7 @@ module _ (image : List ℕ) (kind : ℕ) (bound buf : List ℕ) (c : ScanCtx) wh
         rw (there, lt-leb (size_of (permutation_at image c.leaf)) c.position.0 facts.used, ← facts.slot, lt-leb 15 s.0 facts.fifteen, le-ltb (ikey_at image c.leaf s) c.last (omega (arith, facts.not-below)))
         (not-due _ _ _ d)
 
-    takes-live : take_slot image kind bound buf c s ≡ record { pass = hand_out image kind bound (buf_of s) c s (key_of s); buf = buf_of s }
+    takes-live : take_slot image kind bound buf c s ≡ record { pass = Ok (hand_out image kind bound (buf_of s) c s (key_of s)); buf = buf_of s }
     unfolding take_slot take_key emit_key pick
     takes-live = rw (facts.storable, facts.live)
 
@@ -92,7 +104,7 @@ module _ (image : List ℕ) (kind : ℕ) (bound buf : List ℕ) (c : ScanCtx) wh
     hands_out_lem = on_side c _ _ _
 
     -- o is what `hand_out` answered
-    pub fast-next : (o : NextKey) → o ≡ next_key image kind bound buf c.leaf s c.cursor → find_next image kind bound buf c ≡ record { pass = pass_of c o; buf = buf_of s }
+    pub fast-next : (o : NextKey) → o ≡ next_key image kind bound buf c.leaf s c.cursor → find_next image kind bound buf c ≡ record { pass = Ok (pass_of c o); buf = buf_of s }
     fast-next o f = finds_new ∙ takes-live ∙ rw (hands_out_lem, ← f)
 
 -- either answer's cursor has the slot's key

@@ -1,12 +1,11 @@
 // What goes from move to move (the Rust's scan_state.rs, and its ForwardScanCtx without the buffer and the layer stack, which the loop
 // holds), and what a move comes to.
 ghost use Rattle.std.specs.Prelude.{◌≡◌, ◌≤◌};
-ghost use Rattle.moves.specs.Moves.{stand_at, in_layer, faulted, standing, onward};
+ghost use Rattle.moves.specs.Moves.{in_layer, standing, onward};
 
 use cursor::cursor_key::CursorPlace;
 use cursor::range_bound::StartMode;
 use node::permuter::Position;
-use search::helper::Searched;
 
 // What the loop does next: the Rust's states without Emit, and Start, which goes by the walk's start mode.
 #[derive(Clone, Copy)]
@@ -33,14 +32,13 @@ pub struct ScanCtx {
 }
 
 // What a move comes to: the loop goes on; a layer is entered, whose root is given; a key is out, with its value, and it is the last where it
-// is the included end; the walk is at its end; the image cannot be read (22).
-#[derive(Clone, Copy)]
+// is the included end; the walk is at its end. A move that cannot read the image is declined.
+#[derive(Clone, Copy, Debug, PartialEq, Eq)]
 pub enum Outcome {
     Continue,
     Push(u64),
     Emit { value: u64, last: bool },
     Exhausted,
-    Fault,
 }
 
 // One move.
@@ -50,85 +48,54 @@ pub struct Pass {
     pub ctx: ScanCtx,
 }
 
-// What a move changes: all but the layer and the start mode.
-pub fn stand_at(
-    c: ScanCtx,
-    leaf: u64,
-    position: Position,
-    cursor: CursorPlace,
-    state: ScanState,
-    dup: bool,
-    last: u64,
-) -> ScanCtx
-    ensures { result ≡ stand_at c leaf position cursor state dup last }
-{
-    ScanCtx {
-        root: c.root,
-        leaf: leaf,
-        position: position,
-        cursor: cursor,
-        depth: c.depth,
-        state: state,
-        last: last,
-        dup: dup,
-    }
-}
-
 // What the loop changes where it enters a layer or leaves one.
 pub fn in_layer(c: ScanCtx, root: u64, leaf: u64, depth: usize) -> ScanCtx
     ensures { result ≡ in_layer c root leaf depth }
 {
-    let position = c.position;
-    let cursor = c.cursor;
-    let state = c.state;
     ScanCtx {
-        root: root,
-        leaf: leaf,
-        position: position,
-        cursor: cursor,
-        depth: depth,
-        state: state,
-        last: c.last,
-        dup: c.dup,
-    }
-}
-
-// A move that meets 22.
-pub fn fault_at(c: ScanCtx) -> Pass
-    ensures { result ≡ faulted c }
-{
-    Pass {
-        outcome: Outcome::Fault,
-        ctx: c,
+        root,
+        leaf,
+        depth,
+        ..c
     }
 }
 
 // The walk stands where a search came to, to find what is there.
-pub fn stand(c: ScanCtx, leaf: u64, k: CursorPlace, dup: bool, last: u64, found: Searched) -> Pass
-    ensures { result ≡ standing c leaf k dup last found }
+pub fn stand(
+    c: ScanCtx,
+    leaf: u64,
+    cursor: CursorPlace,
+    dup: bool,
+    last: u64,
+    position: Position,
+) -> Pass
+    ensures { result ≡ standing c leaf cursor dup last position }
 {
-    match found {
-        Searched::At(p) => Pass {
-            outcome: Outcome::Continue,
-            ctx: stand_at(c, leaf, p, k, ScanState::FindNext, dup, last),
+    Pass {
+        outcome: Outcome::Continue,
+        ctx: ScanCtx {
+            leaf,
+            position,
+            cursor,
+            state: ScanState::FindNext,
+            last,
+            dup,
+            ..c
         },
-        Searched::Fault => fault_at(c),
     }
 }
 
 // The walk one position on, with the key that the cursor has come to.
-pub fn go_on(c: ScanCtx, k: CursorPlace, last: u64) -> ScanCtx
+pub fn go_on(c: ScanCtx, cursor: CursorPlace, last: u64) -> ScanCtx
     requires { c.position.0 ≤ 15 }
-    ensures { result ≡ onward c k last }
+    ensures { result ≡ onward c cursor last }
 {
-    let i = c.position;
-    stand_at(
-        c,
-        c.leaf,
-        Position(i.0 + 1),
-        k,
-        ScanState::FindNext,
-        false,
+    ScanCtx {
+        position: Position(c.position.0 + 1),
+        cursor,
+        state: ScanState::FindNext,
         last,
-    )
+        dup: false,
+        ..c
+    }
 }

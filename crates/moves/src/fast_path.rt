@@ -9,16 +9,10 @@ ghost use Rattle.moves.specs.CodeFastPath.{fast_slot, next_of};
 use crate::stored_key;
 use cursor::cursor_key::CursorPlace;
 use cursor::range_bound;
-use cursor::range_bound::Side;
+use cursor::range_bound::{End, Side};
+use node::leaf::LeafReader;
+use node::permuter;
 use node::permuter::{Position, Slot};
-use node::{leaf, permuter};
-
-// The slot whose key is next, or that it takes more than this to tell.
-#[derive(Clone, Copy)]
-pub enum FastSlot {
-    At(Slot),
-    Slow,
-}
 
 // A key that is stored in cursor and buffer: it is out, with its value, and the last where it is the included end; or it is past the bound.
 #[derive(Clone, Copy)]
@@ -31,65 +25,49 @@ pub enum NextKey {
     Past(CursorPlace),
 }
 
-// The slot at a walk's position, where its leaf stands: in use, not before the cursor's ikey, storable and live.
-pub fn fast_slot(image: &[u8], leaf: usize, position: Position, k: CursorPlace) -> FastSlot
-    requires in_leaf { InLeaf image.now leaf }
+// The slot at a walk's position, where its leaf stands: in use, not before the cursor's ikey, storable and live. For any other it takes more
+// than this to tell.
+pub fn fast_slot(leaf: LeafReader, position: Position, k: CursorPlace) -> Option<Slot>
+    requires in_leaf { InLeaf leaf.image.now leaf.at }
     requires offset_bound { k.offset ≤ 248 }
-    ensures { result ≡ fast_slot image.now leaf position k }
+    ensures { result ≡ fast_slot leaf.entry.image.now leaf.entry.at position k }
 {
-    let permutation = leaf::permutation(image, leaf);
-    let i = position.0;
-    if permuter::size(permutation) <= i {
-        return FastSlot::Slow;
+    let permutation = leaf.permutation();
+    if permuter::size(permutation) <= position.0 {
+        return None;
     }
     let slot = permuter::get(permutation, position);
-    let s = slot.0;
-    if 15 <= s {
-        return FastSlot::Slow;
+    if 15 <= slot.0 || leaf.ikey(slot) < k.ikey {
+        return None;
     }
-    if leaf::ikey(image, leaf, slot) < k.ikey {
-        return FastSlot::Slow;
+    if !stored_key::is_storable(leaf, slot, k.offset) || !leaf.live(slot) {
+        return None;
     }
-    if !stored_key::is_storable(image, leaf, slot, k.offset) {
-        return FastSlot::Slow;
-    }
-    if !leaf::live(image, leaf, slot) {
-        return FastSlot::Slow;
-    }
-    FastSlot::At(slot)
+    Some(slot)
 }
 
 // On which side the bound has a live slot's key, which cursor and buffer hold; `store_key` has put it there.
-pub fn hand_out(
-    image: &[u8],
-    kind: u8,
-    bound: &[u8],
-    buf: &[u8],
-    leaf: usize,
-    slot: Slot,
-    stored: CursorPlace,
-) -> NextKey
-    requires in_slot { InSlot image.now leaf slot }
+pub fn hand_out(leaf: LeafReader, end: End, buf: &[u8], slot: Slot, stored: CursorPlace) -> NextKey
+    requires in_slot { InSlot leaf.image.now leaf.at slot }
     requires len_bound { stored.offset + stored.len ≤ 256 }
     requires buf_len { length buf.now ≡ 256 }
-    ensures { result ≡ next_of image.now kind bound.now buf.now leaf slot stored }
+    ensures { result ≡ next_of leaf.entry.image.now end.entry.kind end.entry.key.now buf.now leaf.entry.at slot stored }
 {
     let t = range_bound::test(
-        kind,
-        bound,
+        end.kind,
+        end.key,
         key::part_of(buf, 0, stored.offset + stored.len),
     );
-    let value = leaf::value(image, leaf, slot);
-    let side = t.side;
-    match side {
+    let value = leaf.value(slot);
+    match t.side {
         Side::Inside => NextKey::Out {
             k: stored,
-            value: value,
+            value,
             last: false,
         },
         Side::AtEnd => NextKey::Out {
             k: stored,
-            value: value,
+            value,
             last: true,
         },
         Side::Past => NextKey::Past(stored),

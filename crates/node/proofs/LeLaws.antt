@@ -1,21 +1,26 @@
--- Laws of little-endian numbers: a wide one is its low part and its high part.
-use Rattle.std.specs.Prelude.{◌≡◌, ◌+◌, ◌*◌, ◌^◌}
-use Rattle.base.specs.Kit.{List, ℕ, zero, suc, add-zero, zero-add, suc-add, pow-zero, pow-succ', one-mul, arith}
-use Rattle.node.specs.Le.{le, u16_at, u32_at, u64_at}
+-- Laws of little-endian numbers: std's number of the bytes is the definition's.
+use Rattle.std.specs.Prelude.{◌≡◌, ◌+◌, ◌*◌, ◌^◌, ◌<◌}
+use Rattle.std.specs.Int.{byte_worth, sum_through}
+use Rattle.std.specs.List.{slice_index}
+use Rattle.base.specs.Kit.{◌∙◌, ap, List, ℕ, zero, suc, mul_assoc, pow-suc, arith, get_or, take, drop, get_or-take, get_or-drop}
+use Rattle.node.specs.Le.{le}
 
--- m + n bytes: the first m are the low part, the n behind them the high part
-pub le_split : (m n : ℕ) (s : List ℕ) (at : ℕ) → le (m + n) s at ≡ le m s at + 256 ^ m * le n s (at + m)
+-- one byte more is the highest of the number
+le-last : (n : ℕ) (s : List ℕ) (at : ℕ) → le (suc n) s at ≡ le n s at + get_or s (at + n) 0 * 256 ^ n
 unfolding le
-le_split zero n s at = simp (zero-add, add-zero, pow-zero, one-mul)
-le_split (suc m) n s at =
-    let e : at + 1 + m ≡ at + suc m = omega arith in
-    let h : le (m + n) s (at + 1) ≡ le m s (at + 1) + 256 ^ m * le n s (at + suc m) = rw e at (le_split m n s (at + 1)) in
-    simp (suc-add, pow-succ') (omega arith)
+le-last zero s at = let e : at + 0 ≡ at = omega arith in omega (arith, ap (λ (i : ℕ). get_or s i 0) e)
+le-last (suc n) s at =
+    let e : at + 1 + n ≡ at + suc n = omega arith in
+    let h : le (suc n) s (at + 1) ≡ le n s (at + 1) + get_or s (at + suc n) 0 * 256 ^ n = rw e at (le-last n s (at + 1)) in
+    let x = get_or s (at + suc n) 0 in
+    omega (arith, h, mul_assoc x (256 ^ n) 256, ap (λ (p : ℕ). x * p) (pow-suc 256 n))
 
-pub u32_at_halves : (s : List ℕ) (at : ℕ) → u32_at s at ≡ u16_at s at + 65536 * u16_at s (at + 2)
-unfolding u16_at u32_at
-u32_at_halves = le_split 2 2
+-- the first bytes from `at` on, each by its worth
+module _ (s : List ℕ) (at m : ℕ) {b : List ℕ} (e : b ≡ take m (drop at s)) where
+  byte : (i : ℕ) → i < m → slice_index b i ≡ get_or s (at + i) 0
+  byte i h = rw e (get_or-take m (drop at s) i 0 h ∙ get_or-drop at s i 0)
 
-pub u64_at_halves : (s : List ℕ) (at : ℕ) → u64_at s at ≡ u32_at s at + 4294967296 * u32_at s (at + 4)
-unfolding u32_at u64_at
-u64_at_halves = le_split 4 4
+  pub summed : (n : ℕ) → n < m → sum_through (λ i. byte_worth i (slice_index b i)) n ≡ le (suc n) s at
+  unfolding le
+  summed zero h = byte zero h ∙ (let e : at + 0 ≡ at = omega arith in omega (arith, ap (λ (i : ℕ). get_or s i 0) e))
+  summed (suc n) h = rw (summed n (omega arith), byte (suc n) h, le-last (suc n) s at)

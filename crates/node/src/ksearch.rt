@@ -11,8 +11,7 @@ pub fn upper_bound_internode(image: &[u8], at: usize, n: usize, ikey: u64) -> us
     requires n_bound { n ≤ 15 }
     ensures { result ≡ upper_bound image.now at ikey 0 n }
 {
-    let mut i = 0;
-    while i < n {
+    for i in 0..n {
         let k = internode::separator(image, at, i);
         if ikey < k {
             return i;
@@ -20,7 +19,6 @@ pub fn upper_bound_internode(image: &[u8], at: usize, n: usize, ikey: u64) -> us
         if ikey == k {
             return i + 1;
         }
-        i += 1;
     }
     n
 }

@@ -1,6 +1,5 @@
 // A leaf's fields (the Rust's leaf15/layout.rs). They are read through one reader that holds the image and the leaf's
-// place: functions on slice and number, a method of the reader over each, and for every other caller a function with
-// plain parameters above it.
+// place: functions on slice and number, and a method of the reader over each, which every caller uses.
 ghost use Rattle.std.specs.Prelude.{◌≡◌, ◌+◌};
 ghost use Rattle.node.specs.Layout.{InLeaf, InSlot, permutation_at, ikey_at, keylenx_at, value_at, suffix_at, live_at, next_at};
 
@@ -8,7 +7,7 @@ use crate::le;
 use crate::permuter::Slot;
 
 // Where a suffix stands in the image, and how many bytes it has.
-#[derive(Clone, Copy)]
+#[derive(Clone, Copy, Debug, PartialEq, Eq)]
 pub struct Suffix {
     pub start: usize,
     pub len: usize,
@@ -35,44 +34,41 @@ fn ikey_at(image: &[u8], at: usize, slot: Slot) -> u64
     requires { InSlot image.now at slot }
     ensures { result ≡ ikey_at image.now at slot }
 {
-    let i = slot.0;
-    le::u64_at(image, at + 16 + 8 * i)
+    le::u64_at(image, at + 16 + 8 * slot.0)
 }
 
 fn keylenx_at(image: &[u8], at: usize, slot: Slot) -> u8
     requires { InSlot image.now at slot }
     ensures { result ≡ keylenx_at image.now at slot }
 {
-    let i = slot.0;
-    image[at + 136 + i]
+    image[at + 136 + slot.0]
 }
 
 fn value_at(image: &[u8], at: usize, slot: Slot) -> u64
     requires { InSlot image.now at slot }
     ensures { result ≡ value_at image.now at slot }
 {
-    let i = slot.0;
-    le::u64_at(image, at + 152 + 8 * i)
+    le::u64_at(image, at + 152 + 8 * slot.0)
 }
 
+#[tactic(auto, unfolding(crate::specs::Layout::suffix_at))]
 fn ksuf_at(image: &[u8], at: usize, slot: Slot) -> Suffix
     requires { InSlot image.now at slot }
     ensures { result ≡ suffix_at image.now at slot }
 {
-    let i = slot.0;
-    let word = le::u64_at(image, at + 272 + 8 * i);
+    let word = le::u64_at(image, at + 272 + 8 * slot.0);
     Suffix {
         start: (word % 4294967296) as usize,
         len: (word / 4294967296) as usize,
     }
 }
 
+#[tactic(auto, unfolding(crate::specs::Layout::live_at, crate::specs::Version::bit))]
 fn live_at(image: &[u8], at: usize, slot: Slot) -> bool
     requires { InSlot image.now at slot }
     ensures { result ≡ live_at image.now at slot }
 {
-    let i = slot.0;
-    (le::u16_at(image, at + 4) >> i) % 2 == 1
+    (le::u16_at(image, at + 4) >> slot.0) % 2 == 1
 }
 
 fn next_at(image: &[u8], at: usize) -> u64
@@ -138,54 +134,4 @@ impl<'a> LeafReader<'a> {
     {
         next_at(self.image, self.at)
     }
-}
-
-// Each field by the image and the leaf's place, through a reader made of them.
-pub fn permutation(image: &[u8], leaf: usize) -> u64
-    requires { InLeaf image.now leaf }
-    ensures { result ≡ permutation_at image.now leaf }
-{
-    LeafReader { image, at: leaf }.permutation()
-}
-
-pub fn ikey(image: &[u8], leaf: usize, slot: Slot) -> u64
-    requires { InSlot image.now leaf slot }
-    ensures { result ≡ ikey_at image.now leaf slot }
-{
-    LeafReader { image, at: leaf }.ikey(slot)
-}
-
-pub fn keylenx(image: &[u8], leaf: usize, slot: Slot) -> u8
-    requires { InSlot image.now leaf slot }
-    ensures { result ≡ keylenx_at image.now leaf slot }
-{
-    LeafReader { image, at: leaf }.keylenx(slot)
-}
-
-pub fn value(image: &[u8], leaf: usize, slot: Slot) -> u64
-    requires { InSlot image.now leaf slot }
-    ensures { result ≡ value_at image.now leaf slot }
-{
-    LeafReader { image, at: leaf }.value(slot)
-}
-
-pub fn ksuf(image: &[u8], leaf: usize, slot: Slot) -> Suffix
-    requires { InSlot image.now leaf slot }
-    ensures { result ≡ suffix_at image.now leaf slot }
-{
-    LeafReader { image, at: leaf }.ksuf(slot)
-}
-
-pub fn live(image: &[u8], leaf: usize, slot: Slot) -> bool
-    requires { InSlot image.now leaf slot }
-    ensures { result ≡ live_at image.now leaf slot }
-{
-    LeafReader { image, at: leaf }.live(slot)
-}
-
-pub fn next(image: &[u8], leaf: usize) -> u64
-    requires { InLeaf image.now leaf }
-    ensures { result ≡ next_at image.now leaf }
-{
-    LeafReader { image, at: leaf }.next()
 }

@@ -15,6 +15,7 @@ pub fn version(image: &[u8], at: usize) -> u32
 }
 
 // Whether bit k is set.
+#[tactic(auto, unfolding(crate::specs::Version::bit))]
 fn has_bit(version: u32, k: u32) -> bool
     requires { k < 32 }
     ensures { result ≡ bit version k }
@@ -29,17 +30,9 @@ pub fn is_leaf(version: u32) -> bool
 }
 
 // Lock, inserting, splitting and deleted are clear.
+#[tactic(auto, unfolding(crate::specs::Version::at_rest, base::specs::Pick::pick))]
 pub fn at_rest(version: u32) -> bool
     ensures { result ≡ at_rest version }
 {
-    if has_bit(version, 0) {
-        return false;
-    }
-    if has_bit(version, 1) {
-        return false;
-    }
-    if has_bit(version, 2) {
-        return false;
-    }
-    !has_bit(version, 29)
+    !has_bit(version, 0) && !has_bit(version, 1) && !has_bit(version, 2) && !has_bit(version, 29)
 }

@@ -4,11 +4,11 @@ ghost use Rattle.std.specs.Prelude.{◌≡◌, ◌<◌};
 ghost use Rattle.node.specs.Permuter.{size_of, slot_at};
 
 // A position in the order of the keys.
-#[derive(Clone, Copy)]
+#[derive(Clone, Copy, Debug, PartialEq, Eq)]
 pub struct Position(pub usize);
 
 // A place in the leaf's arrays. 15 is none of the 15 places.
-#[derive(Clone, Copy)]
+#[derive(Clone, Copy, Debug, PartialEq, Eq)]
 pub struct Slot(pub usize);
 
 pub fn size(permutation: u64) -> usize
@@ -17,10 +17,10 @@ pub fn size(permutation: u64) -> usize
     (permutation % 16) as usize
 }
 
+#[tactic(auto, unfolding(crate::specs::Permuter::slot_at))]
 pub fn get(permutation: u64, p: Position) -> Slot
     requires { p.0 < 15 }
     ensures { result ≡ slot_at permutation p }
 {
-    let i = p.0;
-    Slot(((permutation >> (4 * i + 4)) % 16) as usize)
+    Slot(((permutation >> (4 * p.0 + 4)) % 16) as usize)
 }

@@ -2,9 +2,10 @@
 ghost use Rattle.std.specs.Prelude.{◌≡◌, ◌≤◌};
 ghost use Rattle.base.specs.Kit.{length};
 ghost use Rattle.node.specs.Layout.{root_offset, key_count, stated_length, edition};
-ghost use Rattle.node.specs.Heading.{length_ok, heading_fault};
+ghost use Rattle.node.specs.Heading.{length_ok, heading};
 
 use crate::le;
+use base::Decline;
 
 pub fn root(image: &[u8]) -> u64
     requires { 32 ≤ length image.now }
@@ -35,31 +36,24 @@ fn edition_of(image: &[u8]) -> u64
 }
 
 // Whether an image may have n bytes.
+#[tactic(auto, unfolding(crate::specs::Heading::length_ok))]
 pub fn is_length_ok(n: usize) -> bool
     ensures { result ≡ length_ok n }
 {
-    if n < 440 {
-        return false;
-    }
-    if 16777216 < n {
-        return false;
-    }
-    n % 8 == 0
+    440 <= n && n <= 16777216 && n % 8 == 0
 }
 
-// 01's numbers 1 and 2, tried before anything else of an image is read; 0 where neither is met.
-pub fn heading_fault(image: &[u8]) -> u8
-    ensures { result ≡ heading_fault image.now }
+// 01's numbers 1 and 2, tried before anything else of an image is read.
+#[tactic(auto, unfolding(crate::specs::Heading::heading, base::specs::Pick::pick))]
+pub fn check_heading(image: &[u8]) -> Result<(), Decline>
+    ensures { result ≡ heading image.now }
 {
     let n = image.len();
     if !is_length_ok(n) {
-        return 1;
+        return Err(Decline::ImageLength);
     }
-    if stated_length(image) != (n as u64) {
-        return 2;
+    if stated_length(image) != (n as u64) || edition_of(image) != 1 {
+        return Err(Decline::Trailer);
     }
-    if edition_of(image) != 1 {
-        return 2;
-    }
-    0
+    Ok(())
 }

@@ -1,21 +1,22 @@
 -- What the functions that C calls return, and what they leave in each slice that is lent to them. LENT OUTPUT is treated one way (01: "A
 -- declined call returns its number, zero elsewhere"): where it has the length of what is to be said, it is written, with zeros where the
 -- call is declined; where it has another length, it stays.
-use Rattle.std.specs.Prelude.{◌∷◌, ◌≡◌}
+use Rattle.std.specs.Prelude.{◌∷◌, ◌≡◌, Result}
 use Rattle.base.specs.Kit.{Bool, List, [], ℕ, eqb, length, replicate}
 use Rattle.base.specs.Pick.{pick}
-use Rattle.punchbronze.specs.Types.{Checked, Placed, Tallied}
+use Rattle.punchbronze.specs.Types.{Counts, Decline, Placed}
 use Rattle.verify.specs.Check.{check_counts}
 use Rattle.survey.specs.Tally.{tally_count}
 use Rattle.walk_record.specs.Record.{numbers_of, sized}
 use Rattle.walk.specs.Walk.{answer_numbers}
+use Rattle.walk.specs.Placing.{code_of}
 use Rattle.record_step.specs.Step.{said_in, step_of, step_number, step_numbers, step_buf}
 
 -- THE CHECK. Its three numbers: leaves, value slots, sub-layers.
-unfoldable pub count_numbers : Checked → List ℕ
+unfoldable pub count_numbers : Result Counts Decline → List ℕ
 count_numbers c = (check_counts c).leaves ∷ (check_counts c).value_slots ∷ (check_counts c).sub_layers ∷ []
 
-unfoldable pub counts_after : Checked → List ℕ → List ℕ
+unfoldable pub counts_after : Result Counts Decline → List ℕ → List ℕ
 counts_after c counts = pick (eqb (length counts) 3) (count_numbers c) counts
 
 -- A PLACING. 21 where the lent record has not a record's lengths, and then it stays; else the placing's number, and its walk.
@@ -23,7 +24,7 @@ abbrev pub fitting : List ℕ → List ℕ → List ℕ → Bool
 fitting numbers buf bound = sized (length numbers) (length buf) (length bound)
 
 unfoldable pub placed_number : Placed → List ℕ → List ℕ → List ℕ → ℕ
-placed_number p numbers buf bound = pick (fitting numbers buf bound) p.code 21
+placed_number p numbers buf bound = pick (fitting numbers buf bound) (code_of p) 21
 
 unfoldable pub placed_numbers : Placed → List ℕ → List ℕ → List ℕ → List ℕ
 placed_numbers p numbers buf bound = pick (fitting numbers buf bound) (numbers_of p.walk) numbers
@@ -57,7 +58,7 @@ pub record StepLeft (numbers buf bound image out : List ℕ) (r : ℕ) (numbers'
   pub out-left : out' ≡ out_after numbers buf bound image out
 
 -- A TALLY. Its count.
-unfoldable pub count_after : Tallied → List ℕ → List ℕ
+unfoldable pub count_after : Result ℕ Decline → List ℕ → List ℕ
 count_after t out = pick (eqb (length out) 1) (tally_count t ∷ []) out
 
 -- A BUILDING says its image's length (02 [2]: "nothing written, length 0"): one number. The image goes into output of any length, as builder

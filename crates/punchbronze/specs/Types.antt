@@ -3,6 +3,5 @@ pub use Rattle.cursor.specs.declared.range_bound.RangeBound.{RangeBound}
 pub use Rattle.cursor.specs.declared.range_bound.StartMode.{StartMode}
 pub use Rattle.cursor.specs.declared.range_bound.StartMode.TheVariants.{Above, From}
 pub use Rattle.walk.specs.declared.scan_state.Placed.{Placed}
-pub use Rattle.survey.specs.declared.Tallied.{Tallied}
-pub use Rattle.verify.specs.declared.Checked.{Checked}
-pub use Rattle.builder.specs.declared.Built.{Built}
+pub use Rattle.verify.specs.declared.Counts.{Counts}
+pub use Rattle.base.specs.declared.Decline.{Decline}

@@ -1,29 +1,18 @@
 -- A line and its parts at a place of a slice: one law for each way out of the code that reads it.
-use Rattle.std.specs.Prelude.{◌≡◌, ◌∷◌, ◌++◌, ◌+◌, ◌*◌, ◌<◌, ◌≤◌}
-use Rattle.base.specs.Kit.{refl, ap, sym, ◌∙◌, true, false, false≢true, List, [], append_assoc, ℕ, suc, add-one, arith, eqb, length, get_or, drop, take, drop_of_length-le, length-drop, length-append, drop-cons, drop-drop, length-take-le, take_at, eq-eqb, ne_eqb}
+use Rattle.std.specs.Prelude.{◌≡◌, ◌∷◌, ◌++◌, ◌+◌, ◌*◌, ◌<◌, ◌≤◌, None, Some}
+use Rattle.std.specs.List.{starts_with}
+use Rattle.base.specs.Kit.{refl, ap, sym, ◌∙◌, true, false, max, List, [], append_assoc, ℕ, add-one, arith, eqb, length, get_or, drop, take, drop_of_length-le, length-drop, length-append, drop-cons, drop-drop, length-take-le, take_at, eq-eqb, ne_eqb}
 use Rattle.base.specs.Pick.{pick}
-use Rattle.base.proofs.Choice.{pick_ind}
 use Rattle.key.specs.Part.{part}
 use Rattle.layering.specs.Keys.{Pair}
 use Rattle.sheet.specs.Sheet.{decimal, hex_key, pair_line}
 use Rattle.sheet.proofs.Hex.{hex_bytes-length}
 use Rattle.reading.specs.Read.{Got, none, got, next, after, number, word_number, key_bytes, some_key, read_key, station, end_word, nothing_behind, read_end}
-use Rattle.reading.specs.CodeViews.{number_seen, NumberRead, word_at, key_at, key_seen, RunRead, KeyRead, station_seen, no_line, StationRead}
-use Rattle.reading.specs.declared.Number.{Number}
-use Rattle.reading.specs.declared.Run.{Run}
-use Rattle.reading.specs.declared.Text.{Text}
-use Rattle.reading.specs.declared.Line.{Line}
+use Rattle.reading.specs.CodeViews.{NumberRead, word_at, key_at, RunRead, KeyRead, StationRead}
+use Rattle.reading.specs.declared.Found.{Found}
 use Rattle.reading.proofs.Gets.{after_word, after_word-not}
+use Rattle.reading.proofs.Turns.{word_is}
 use Rattle.reading.proofs.Sheets.{station-text}
-
-module _ (s : List ℕ) (m : Number) where
-  pub number-none : m.found ≡ false → number_seen s m ≡ none
-  unfolding number_seen pick
-  number-none f = rw f
-
-  pub number-got : m.found ≡ true → number_seen s m ≡ got m.value (drop m.next s)
-  unfolding number_seen pick
-  number-got f = rw f
 
 -- A WORD, A DECIMAL AND THE LINE'S END.
 abbrev ended : ℕ → List ℕ → Got ℕ
@@ -33,63 +22,68 @@ abbrev figured : List ℕ → Got ℕ
 figured s₁ = next (number s₁) ended
 
 module _ (w s : List ℕ) (at : ℕ) where
-  pub no_word : word_at w (drop at s) ≡ false → word_number w (drop at s) ≡ none
+  pub no_word : starts_with eqb (drop at s) w ≡ false → word_number w (drop at s) ≡ none
   unfolding word_number
-  no_word e = after_word-not w (drop at s) figured e
+  no_word e = after_word-not w (drop at s) figured (sym (word_is w (drop at s)) ∙ e)
 
-  module _ (e : word_at w (drop at s) ≡ true) where
+  module _ (e : starts_with eqb (drop at s) w ≡ true) where
+    there : word_at w (drop at s) ≡ true
+    there = sym (word_is w (drop at s)) ∙ e
+
     worded : word_number w (drop at s) ≡ figured (drop (at + length w) s)
     unfolding word_number
-    worded = (after_word w (drop at s) figured e).0 ∙ ap figured (drop-drop (length w) at s)
+    worded = (after_word w (drop at s) figured there).0 ∙ ap figured (drop-drop (length w) at s)
 
-    module _ (m : Number) (M : NumberRead (number (drop (at + length w) s)) s (at + length w) m) where
-      pub no-figure : m.found ≡ false → word_number w (drop at s) ≡ none
+    pub word-inside : at ≤ length s → at + length w ≤ length s
+    word-inside h = omega (arith, (after_word w (drop at s) figured there).1, length-drop at s)
+
+    pub no-figure : NumberRead (number (drop (at + length w) s)) s (at + length w) None → word_number w (drop at s) ≡ none
+    unfolding next
+    no-figure M = worded ∙ rw (sym M.seen)
+
+    module _ (m : Found ℕ) (M : NumberRead (number (drop (at + length w) s)) s (at + length w) (Some m)) where
+      figure_there : word_number w (drop at s) ≡ ended m.value (drop m.next s)
       unfolding next
-      no-figure f = worded ∙ rw (sym M.seen ∙ number-none s m f)
+      figure_there = worded ∙ rw (sym M.seen)
 
-      module _ (f : m.found ≡ true) where
-        figure_there : word_number w (drop at s) ≡ ended m.value (drop m.next s)
-        unfolding next
-        figure_there = worded ∙ rw (sym M.seen ∙ number-got s m f)
+      pub no_newline : starts_with eqb (drop m.next s) (10 ∷ []) ≡ false → word_number w (drop at s) ≡ none
+      no_newline n = figure_there ∙ after_word-not (10 ∷ []) (drop m.next s) _ (sym (word_is (10 ∷ []) (drop m.next s)) ∙ n)
 
-        pub no_newline : word_at (10 ∷ []) (drop m.next s) ≡ false → word_number w (drop at s) ≡ none
-        no_newline n = figure_there ∙ after_word-not (10 ∷ []) (drop m.next s) _ n
+      module _ (n : starts_with eqb (drop m.next s) (10 ∷ []) ≡ true) where
+        newline : word_at (10 ∷ []) (drop m.next s) ≡ true
+        newline = sym (word_is (10 ∷ []) (drop m.next s)) ∙ n
 
-        module _ (n : word_at (10 ∷ []) (drop m.next s) ≡ true) where
-          pub line-inside : m.next + 1 ≤ length s
-          line-inside =
-              omega (arith, M.inside, (after_word (10 ∷ []) (drop m.next s) (λ s₃. got m.value s₃) n).1, length-drop m.next s)
+        pub line-inside : m.next + 1 ≤ length s
+        line-inside =
+            omega (arith, M.inside, (after_word (10 ∷ []) (drop m.next s) (λ s₃. got m.value s₃) newline).1, length-drop m.next s)
 
-          pub line_there : NumberRead (word_number w (drop at s)) s at (record { found = true; value = m.value; next = m.next + 1 })
-          unfolding number_seen pick
-          line_there =
-              record {
-                seen =
-                    sym (figure_there ∙ (after_word (10 ∷ []) (drop m.next s) (λ s₃. got m.value s₃) n).0
-                    ∙ ap (λ (q : List ℕ). got m.value q) (drop-drop 1 m.next s));
-                inside = line-inside;
-                on = λ t. omega (arith, M.on f);
-              }
+        pub line_there : NumberRead (word_number w (drop at s)) s at (Some (record { value = m.value; next = m.next + 1 }))
+        line_there =
+            record {
+              seen =
+                  sym (figure_there ∙ (after_word (10 ∷ []) (drop m.next s) (λ s₃. got m.value s₃) newline).0
+                  ∙ ap (λ (q : List ℕ). got m.value q) (drop-drop 1 m.next s));
+              inside = (omega (arith, M.inside), line-inside);
+            }
 
 -- THE END LINE.
-module _ (s : List ℕ) (at : ℕ) (m : Number) (M : NumberRead (word_number end_word (drop at s)) s at m) where
-  ends : read_end (drop at s) ≡ next (number_seen s m) nothing_behind
-  unfolding read_end
-  ends = ap (λ (g : Got ℕ). next g nothing_behind) (sym M.seen)
+module _ (s : List ℕ) (at : ℕ) where
+  pub end_none : NumberRead (word_number end_word (drop at s)) s at None → none ≡ read_end (drop at s)
+  unfolding read_end next
+  end_none M = rw (sym M.seen)
 
-  pub end_more : m.next < length s → read_end (drop at s) ≡ none
-  unfolding number_seen next nothing_behind
-  end_more h = ends ∙ pick_ind (λ (g : Got ℕ). next g nothing_behind ≡ none) m.found (λ t. more h) (λ f. refl)
-    where
-      more : m.next < length s → nothing_behind m.value (drop m.next s) ≡ none
-      more h = rw (drop-cons s m.next 0 h)
+  module _ (m : Found ℕ) (M : NumberRead (word_number end_word (drop at s)) s at (Some m)) where
+    ends : read_end (drop at s) ≡ nothing_behind m.value (drop m.next s)
+    unfolding read_end next
+    ends = rw (sym M.seen)
 
-  pub end-last : length s ≤ m.next → number_seen s m ≡ read_end (drop at s)
-  unfolding number_seen next nothing_behind
-  end-last h = sym (ends ∙ pick_ind (λ (g : Got ℕ). next g nothing_behind ≡ g) m.found (λ t. last) (λ f. refl))
-    where
-      last : nothing_behind m.value (drop m.next s) ≡ got m.value (drop m.next s)
-      last = rw (drop_of_length-le s h)
+    pub end_more : m.next < length s → none ≡ read_end (drop at s)
+    unfolding nothing_behind
+    end_more h = rw (ends, drop-cons s m.next 0 h)
+
+    pub end-last : length s ≤ m.next → got m.value (drop m.next s) ≡ read_end (drop at s)
+    unfolding nothing_behind
+    end-last h = rw (ends, drop_of_length-le s h)
 
 -- A KEY.
 some-none : (k r : List ℕ) → length k ≡ 0 → some_key k r ≡ none
@@ -103,21 +97,19 @@ some-some [] r h = absurd (h refl)
 some-some (b ∷ k) r h = refl
 
 module _ (s : List ℕ) (at : ℕ) (buf : List ℕ) where
-  pub key_end : (r : Text) → r ≡ record { found = false; len = 0; next = 0 } → length s ≤ at → KeyRead s at buf buf r
-  unfolding key_seen key_at read_key pick
-  key_end r q h =
-      let e = drop_of_length-le s h in
-      record { seen = rw (q, e); len = rw (q, e); inside = rw q (omega arith); on = λ t. absurd (false≢true (rw q at t)); kept = rw e }
+  pub key_end : length s ≤ at → KeyRead s at buf buf None
+  unfolding key_at read_key
+  key_end h = let e = drop_of_length-le s h in record { seen = rw e; found = tt; kept = rw e }
 
   module _ (h : at < length s) where
-    pub key_dash : get_or s at 0 ≡ 45 → KeyRead s at buf buf (record { found = true; len = 0; next = at + 1 })
-    unfolding key_seen key_at read_key pick
+    pub key_dash : get_or s at 0 ≡ 45 → KeyRead s at buf buf (Some (record { value = 0; next = at + 1 }))
+    unfolding key_at read_key pick
     key_dash d =
         let e = drop-cons s at 0 h in
         let t = eq-eqb (get_or s at 0) 45 d in
-        record { seen = rw (add-one at, e, t); len = rw (e, t); inside = omega arith; on = λ t. omega arith; kept = rw (e, t) }
+        record { seen = rw (add-one at, e, t); found = (rw (e, t), omega arith, omega arith); kept = rw (e, t) }
 
-    module _ (d : get_or s at 0 ≡ 45 → ⊥) (buf' : List ℕ) (r : Run) (R : RunRead s at buf buf' r) where
+    module _ (d : get_or s at 0 ≡ 45 → ⊥) (buf' : List ℕ) (r : Found ℕ) (R : RunRead s at buf buf' r) where
       key-run : key_at (drop at s) ≡ (key_bytes (drop at s)).key
       unfolding key_at pick
       key-run = rw (drop-cons s at 0 h, ne_eqb (get_or s at 0) 45 d)
@@ -129,26 +121,20 @@ module _ (s : List ℕ) (at : ℕ) (buf : List ℕ) where
           open-run : read_key (drop at s) ≡ some_key (key_bytes (drop at s)).key (key_bytes (drop at s)).rest
           open-run = rw (drop-cons s at 0 h, ne_eqb (get_or s at 0) 45 d)
 
-      pub key-none : (k : Text) → k ≡ record { found = false; len = 0; next = 0 } → r.len ≡ 0 → KeyRead s at buf buf' k
-      unfolding key_seen pick
-      key-none k q z =
+      pub key-none : r.value ≡ 0 → KeyRead s at buf buf' None
+      key-none z =
           let m : 0 ≡ length (key_bytes (drop at s)).key = sym z ∙ R.len in
           record {
-            seen = rw q (sym (read-run ∙ some-none (key_bytes (drop at s)).key (drop r.next s) (sym m)));
-            len = rw (q, key-run) m;
-            inside = rw q (omega arith);
-            on = λ t. absurd (false≢true (rw q at t));
+            seen = sym (read-run ∙ some-none (key_bytes (drop at s)).key (drop r.next s) (sym m));
+            found = tt;
             kept = rw key-run R.kept;
           }
 
-      pub key-some : (r.len ≡ 0 → ⊥) → KeyRead s at buf buf' (record { found = true; len = r.len; next = r.next })
-      unfolding key_seen pick
+      pub key-some : (r.value ≡ 0 → ⊥) → KeyRead s at buf buf' (Some r)
       key-some z =
           record {
             seen = rw key-run (sym (read-run ∙ some-some (key_bytes (drop at s)).key (drop r.next s) (λ m. z (R.len ∙ m))));
-            len = rw key-run R.len;
-            inside = R.inside;
-            on = λ t. omega (arith, R.on);
+            found = (rw key-run R.len, omega (arith, R.on), R.inside);
             kept = rw key-run R.kept;
           }
 
@@ -156,53 +142,35 @@ module _ (s : List ℕ) (at : ℕ) (buf : List ℕ) where
 abbrev valued : List ℕ → List ℕ → Got Pair
 valued k s₁ = next (word_number (32 ∷ []) s₁) (λ v s₂. got (record { key = k; value = v }) s₂)
 
-module _ (s : List ℕ) (at : ℕ) (buf buf' : List ℕ) (k : Text) (K : KeyRead s at buf buf' k) where
-  bad : (r : Line) → r ≡ no_line → station (drop at s) ≡ none → StationRead s at buf buf' r
-  unfolding station_seen pick
-  bad r q n =
-      record {
-        seen = rw (q, n);
-        len = λ t. absurd (false≢true (rw q at t));
-        inside = rw q (omega arith);
-        on = λ t. absurd (false≢true (rw q at t));
-        zeros = λ f. q;
-        kept = K.kept;
-      }
+module _ (s : List ℕ) (at : ℕ) (buf buf' : List ℕ) where
+  pub line_no-key : KeyRead s at buf buf' None → StationRead s at buf buf' None
+  unfolding station next
+  line_no-key K = let g : none ≡ read_key (drop at s) = K.seen in record { seen = rw (← g); found = tt; kept = K.kept }
 
-  pub line_no-key : (r : Line) → r ≡ no_line → k.found ≡ false → StationRead s at buf buf' r
-  unfolding station next key_seen pick
-  line_no-key r q n =
-      let g : none ≡ read_key (drop at s) = rw n at K.seen in
-      bad r q (rw (← g))
-
-  module _ (y : k.found ≡ true) (v : Number) (N : NumberRead (word_number (32 ∷ []) (drop k.next s)) s k.next v) where
+  module _ (k : Found ℕ) (K : KeyRead s at buf buf' (Some k)) where
     keyed : station (drop at s) ≡ valued (key_at (drop at s)) (drop k.next s)
-    unfolding station next key_seen pick
-    keyed =
-        let g : got (key_at (drop at s)) (drop k.next s) ≡ read_key (drop at s) = rw y at K.seen in
-        rw (← g)
+    unfolding station next
+    keyed = let g : got (key_at (drop at s)) (drop k.next s) ≡ read_key (drop at s) = K.seen in rw (← g)
 
-    pub line_no-value : (r : Line) → r ≡ no_line → v.found ≡ false → StationRead s at buf buf' r
+    pub line_no-value : NumberRead (word_number (32 ∷ []) (drop k.next s)) s k.next None → StationRead s at buf buf' None
     unfolding next
-    line_no-value r q n = bad r q (keyed ∙ rw (sym N.seen ∙ number-none s v n))
+    line_no-value N = record { seen = sym (keyed ∙ rw (sym N.seen)); found = tt; kept = K.kept }
 
-    pub line_found : v.found ≡ true → StationRead s at buf buf' (record { found = true; key_len = k.len; value = v.value; next = v.next })
-    unfolding station_seen next pick
-    line_found n =
+    pub line_found : (v : Found ℕ) → NumberRead (word_number (32 ∷ []) (drop k.next s)) s k.next (Some v)
+        → StationRead s at buf buf' (Some (record { key_len = k.value; value = v.value; next = v.next }))
+    unfolding next
+    line_found v N =
         record {
-          seen = sym (keyed ∙ rw (sym N.seen ∙ number-got s v n));
-          len = λ t. K.len;
-          inside = N.inside;
-          on = λ t. omega (arith, K.on y, N.on n);
-          zeros = λ f. absurd (false≢true (sym f));
+          seen = sym (keyed ∙ rw (sym N.seen));
+          found = (K.found.0, omega (arith, K.found, N.inside), N.inside.1);
           kept = K.kept;
         }
 
 -- THE TEXT OF A KEY, at the front of its line.
-pub text-length : (k : List ℕ) → pick (eqb (length k) 0) 1 (2 * length k) ≡ length (hex_key k)
-unfolding hex_key pick
+pub text-length : (k : List ℕ) → max (2 * length k) 1 ≡ length (hex_key k)
+unfolding hex_key
 text-length [] = refl
-text-length (b ∷ k) = rw (ne_eqb (suc (length k)) 0 (λ z. omega arith)) (sym (hex_bytes-length (b ∷ k)))
+text-length (b ∷ k) = omega (arith, hex_bytes-length (b ∷ k))
 
 pub text_double : (k : List ℕ) → 2 * length k ≤ length (hex_key k)
 unfolding hex_key

@@ -1,67 +1,69 @@
 -- The pairs of the lines from a place on: the first of them, as `station_at` reads it; a run of lines in two parts; and those of a sheet.
-use Rattle.std.specs.Prelude.{◌≡◌, ◌∷◌, ◌++◌, ◌+◌, ◌-◌, ◌≤◌, ◌<◌}
-use Rattle.base.specs.Kit.{refl, sym, ap, subst, ◌∙◌, true, false, List, [], ℕ, zero, suc, arith, zero-add, length, length-append, take, drop, drop_at, sets, sets-eq, take_at}
-use Rattle.base.specs.Pick.{pick}
-use Rattle.base.proofs.Choice.{pick_ind, by_test}
+use Rattle.std.specs.Prelude.{◌≡◌, ◌∷◌, ◌++◌, ◌+◌, ◌-◌, ◌≤◌, ◌<◌, Option, None, Some, Result, Ok, Err}
+use Rattle.std.specs.Option.{is_some}
+use Rattle.base.specs.Kit.{refl, sym, ap, subst, ◌∙◌, true, List, [], ℕ, zero, suc, arith, zero-add, length, length-append, take, drop, drop_at, sets, sets-eq, take_at}
+use Rattle.base.specs.declared.Decline.{Decline}
 use Rattle.layering.specs.Keys.{Pair}
 use Rattle.sheet.specs.Sheet.{first_line}
 use Rattle.reading.specs.Form.{Sheet}
 use Rattle.reading.specs.Read.{Got, none, got, next, station, stations, read_head, read_end, body}
 use Rattle.reading.specs.Pairs.{cons_if, pairs_in, rest_if, behind}
-use Rattle.reading.specs.Fault.{keys_rise, Answer, fault, sheet, judged, formed, read_sheet, fault_number}
+use Rattle.reading.specs.Fault.{read_sheet}
 use Rattle.reading.specs.Opened.{opened}
-use Rattle.reading.specs.CodeViews.{key_at, station_seen, StationRead}
+use Rattle.reading.specs.CodeViews.{key_at, StationRead}
 use Rattle.reading.specs.declared.Line.{Line}
 use Rattle.reading.specs.declared.Opened.{Opened}
 use Rattle.reading.proofs.Gets.{next-then, got_same}
-use Rattle.reading.proofs.Sheets.{head-text, body-text, fault-sheet, formed-sheet}
+use Rattle.reading.proofs.Sheets.{head-text, body-text, formed-sheet}
 
 -- a key that fits stands whole at the front of its buffer
 pub stored-whole : (k buf : List ℕ) → length k ≤ length buf → take (length k) (sets buf 0 k) ≡ k
 stored-whole k buf h = ap (take (length k)) (sets-eq k buf 0 (omega arith)) ∙ take_at k (drop (0 + length k) buf) (length k) refl
 
 -- THE LINE AT A PLACE, as the code reads it.
-module _ (s : List ℕ) (at : ℕ) (buf buf' : List ℕ) (r : Line) (R : StationRead s at buf buf' r) where
-  pub line-none : r.found ≡ false → station (drop at s) ≡ none
-  unfolding station_seen pick
-  line-none f = sym R.seen ∙ rw f
+module _ (s : List ℕ) (at : ℕ) (buf buf' : List ℕ) where
+  module _ (R : StationRead s at buf buf' None) where
+    pub line-none : station (drop at s) ≡ none
+    line-none = sym R.seen
 
-  pub line-got : r.found ≡ true → station (drop at s) ≡ got (record { key = key_at (drop at s); value = r.value }) (drop r.next s)
-  unfolding station_seen pick
-  line-got f = sym R.seen ∙ rw f
+    pub pairs-none : (n : ℕ) → pairs_in (suc n) (drop at s) ≡ []
+    unfolding pairs_in cons_if
+    pairs-none n = rw line-none
 
-  pub behind_more : (n : ℕ) → r.found ≡ true → behind (suc n) (drop at s) ≡ behind n (drop r.next s)
-  unfolding behind rest_if
-  behind_more n f = rw (line-got f)
+  module _ (r : Line) (R : StationRead s at buf buf' (Some r)) where
+    pub line-got : station (drop at s) ≡ got (record { key = key_at (drop at s); value = r.value }) (drop r.next s)
+    line-got = sym R.seen
 
-  pub pairs-more : (n : ℕ) → r.found ≡ true
-      → pairs_in (suc n) (drop at s) ≡ record { key = key_at (drop at s); value = r.value } ∷ pairs_in n (drop r.next s)
-  unfolding pairs_in cons_if
-  pairs-more n f = rw (line-got f)
+    pub behind_more : (n : ℕ) → behind (suc n) (drop at s) ≡ behind n (drop r.next s)
+    unfolding behind rest_if
+    behind_more n = rw line-got
 
-  pub pairs-none : (n : ℕ) → r.found ≡ false → pairs_in (suc n) (drop at s) ≡ []
-  unfolding pairs_in cons_if
-  pairs-none n f = rw (line-none f)
+    pub pairs-more : (n : ℕ) → pairs_in (suc n) (drop at s) ≡ record { key = key_at (drop at s); value = r.value } ∷ pairs_in n (drop r.next s)
+    unfolding pairs_in cons_if
+    pairs-more n = rw line-got
 
 -- What is known of the first of n lines that are all there.
 pub record FirstLine (s : List ℕ) (at n : ℕ) (r : Line) : Type 0 where
-  pub found : r.found ≡ true
   pub pairs : pairs_in n (drop at s) ≡ record { key = key_at (drop at s); value = r.value } ∷ pairs_in (n - 1) (drop r.next s)
   pub rest : length (pairs_in (n - 1) (drop r.next s)) ≡ n - 1
   pub len : r.key_len ≡ length (key_at (drop at s))
   pub on : at < r.next
   pub inside : r.next ≤ length s
 
+-- It is there.
+pub station-some : (s : List ℕ) (at n : ℕ) (buf buf' : List ℕ) (r : Option Line) → 0 < n → length (pairs_in n (drop at s)) ≡ n
+    → StationRead s at buf buf' r → is_some r ≡ true
+station-some s at zero buf buf' r h e R = absurd (omega arith)
+station-some s at (suc n) buf buf' None h e R = absurd (omega (arith, ap length (pairs-none s at buf buf' R n)))
+station-some s at (suc n) buf buf' (Some r) h e R = refl
+
 pub station-first : (s : List ℕ) (at n : ℕ) (buf buf' : List ℕ) (r : Line) → 0 < n → length (pairs_in n (drop at s)) ≡ n
-    → StationRead s at buf buf' r → FirstLine s at n r
+    → StationRead s at buf buf' (Some r) → FirstLine s at n r
 station-first s at zero buf buf' r h e R = absurd (omega arith)
 station-first s at (suc n) buf buf' r h e R =
-    by_test r.found
-    (λ t.
-    let p = pairs-more s at buf buf' r R n t in
+    let p = pairs-more s at buf buf' r R n in
     let z : suc n - 1 ≡ n = omega arith in
-    record { found = t; pairs = rw z p; rest = rw z (omega (arith, ap length p)); len = R.len t; on = R.on t; inside = R.inside })
-    (λ f. absurd (omega (arith, ap length (pairs-none s at buf buf' r R n f))))
+    record { pairs = rw z p; rest = rw z (omega (arith, ap length p)); len = R.found.0; on = R.found.1; inside = R.found.2 }
 
 -- FEWER LINES are the first of more; a run of lines that are all there, in two parts.
 cons_take : (a n : ℕ) (g : Got Pair) → ((r : List ℕ) → pairs_in a r ≡ take a (pairs_in n r)) → cons_if g (pairs_in a) ≡ take (suc a) (cons_if g (pairs_in n))
@@ -113,7 +115,7 @@ body-pairs n s g =
     next-then (read_end s₁) _ g₁ λ m s₂ gm g₂.
     got_same (λ x r. pairs_in n s ≡ x.pairs) g₂ (stations-pairs n s xs s₁ gx).0
 
-module _ (s : List ℕ) (x : Sheet) (g : read_sheet s ≡ sheet x) where
+module _ (s : List ℕ) (x : Sheet) (g : read_sheet s ≡ Ok x) where
   lines : (pairs_in (length x.pairs) (drop (length (first_line (length x.pairs))) s) ≡ x.pairs)
       × (length (first_line (length x.pairs)) ≤ length s)
   unfolding read_sheet
@@ -130,37 +132,24 @@ module _ (s : List ℕ) (x : Sheet) (g : read_sheet s ≡ sheet x) where
   pub read_pairs : pairs_in (length x.pairs) (drop (length (first_line (length x.pairs))) s) ≡ x.pairs
   read_pairs = lines.0
 
--- WHAT `read_sheet` SAYS: its number; where that is 0, a sheet, its lines' number and where they start.
-pub number_is : (s : List ℕ) (r : Opened) → r ≡ opened (read_sheet s) → r.number ≡ fault_number (read_sheet s)
-unfolding opened fault_number
-number_is s r e = ap (λ (o : Opened). o.number) e ∙ go (read_sheet s)
-  where
-    go : (a : Answer) → (opened a).number ≡ fault_number a
-    go (fault n) = refl
-    go (sheet x) = refl
-
+-- WHAT `read_sheet` SAYS of a sheet: its lines' number and where they start.
 pub record SheetOpened (s : List ℕ) (r : Opened) (x : Sheet) : Type 0 where
-  pub is : read_sheet s ≡ sheet x
+  pub is : read_sheet s ≡ Ok x
   pub count : r.count ≡ length x.pairs
   pub pairs : pairs_in r.count (drop r.line s) ≡ x.pairs
   pub line : r.line ≤ length s
 
-formed-fault : (n : ℕ) (g : Got Sheet) → formed g ≡ fault n → 31 ≤ n
-unfolding formed judged
-formed-fault n none e = let z : ◌≡◌ {A = ℕ} 31 n = cc in omega arith
-formed-fault n (got x s) e =
-    pick_ind (λ (a : Answer). a ≡ fault n → 31 ≤ n) (keys_rise x.pairs)
-    (λ t k. absurd (fault-sheet n (sym k)))
-    (λ f k. let z : ◌≡◌ {A = ℕ} 32 n = cc in omega arith) e
-
-pub opened-sheet : (s : List ℕ) (r : Opened) → r ≡ opened (read_sheet s) → r.number ≡ 0 → (x : Sheet) × SheetOpened s r x
-unfolding opened fault_number read_sheet
-opened-sheet s r e z = go (read_sheet s) refl
+pub opened-sheet : (s : List ℕ) (r : Opened) → Ok r ≡ opened (read_sheet s) → (x : Sheet) × SheetOpened s r x
+unfolding opened read_sheet
+opened-sheet s r e = go (read_sheet s) refl e
   where
-    go : (a : Answer) → read_sheet s ≡ a → (x : Sheet) × SheetOpened s r x
-    go (fault n) g =
-        let k : r.number ≡ n = number_is s r e ∙ rw g in
-        absurd (omega (arith, formed-fault n (next (read_head s) body) g))
-    go (sheet x) g =
-        let o : r ≡ record { number = 0; count = length x.pairs; line = length (first_line (length x.pairs)) } = rw g at e in
+    go : (a : Result Sheet Decline) → read_sheet s ≡ a → Ok r ≡ opened a → (x : Sheet) × SheetOpened s r x
+    go (Err d) g h = let z : ◌≡◌ {A = Result Opened Decline} (Ok r) (Err d) = h in cc
+    go (Ok x) g h =
+        let o : r ≡ record { count = length x.pairs; line = length (first_line (length x.pairs)) } = cc in
         (x, record { is = g; count = rw o; pairs = rw o (read_pairs s x g); line = rw o (lines s x g).1 })
+
+pub opened-declined : (a : Result Sheet Decline) (d : Decline) → Err d ≡ opened a → a ≡ Err d
+unfolding opened
+opened-declined (Err q) d h = let z : ◌≡◌ {A = Result Opened Decline} (Err d) (Err q) = h in cc
+opened-declined (Ok x) d h = let z : ◌≡◌ {A = Result Opened Decline} (Err d) (Ok (record { count = length x.pairs; line = length (first_line (length x.pairs)) })) = h in cc

@@ -1,11 +1,12 @@
 -- The order of the keys: hex text has the order of the bytes it spells, so that a loop reads it off the texts; and keys that rise are
 -- `Ascending`.
 use Rattle.std.specs.Prelude.{◌≡◌, ◌&&◌, ◌∷◌, ◌/◌, ◌%◌, ◌≤◌, ◌<◌}
+use Rattle.std.specs.Ordering.{is_lt}
 use Rattle.base.specs.Kit.{refl, sym, ap, ◌∙◌, Bool, true, false, and-eq-true_iff, List, [], ℕ, suc, arith, ltb, leb, length, ltb-true, ltb-false, leb-true, le-leb, lt-leb, leb-false}
 use Rattle.base.proofs.Choice.{by_test}
 use Rattle.key.specs.Order.{byte_order}
-use Rattle.key.specs.declared.Ordering.{Ordering}
-use Rattle.key.specs.declared.Ordering.TheVariants.{Less, Equal, Greater}
+use Rattle.std.specs.declared.cmp.Ordering.{Ordering}
+use Rattle.std.specs.declared.cmp.Ordering.TheVariants.{Less, Equal, Greater}
 use Rattle.key.proofs.Order.{Lex, nil-lt, head-lt, tail-lt, lex_trans, CmpB, b_lt, b-eq, b_gt, cmpb, lex_cmp, lex_gt, cmp-refl, cmp_less}
 use Rattle.layering.specs.Keys.{Pair}
 use Rattle.layering.specs.Ascending.{All, Ascending}
@@ -13,7 +14,7 @@ use Rattle.layering.proofs.Row.{all_map}
 use Rattle.sheet.specs.Sheet.{hex_digit, hex_bytes, hex_key}
 use Rattle.sheet.proofs.Hex.{hex_bytes-length}
 use Rattle.reading.specs.Read.{Got, none, got, next, station, stations}
-use Rattle.reading.specs.Fault.{is_less, rise_above, keys_rise}
+use Rattle.reading.specs.Fault.{rise_above, keys_rise}
 use Rattle.reading.specs.CodeViews.{follows, texts_rise, risen}
 use Rattle.reading.proofs.Keys.{digit_low, digit_high, high_digit}
 
@@ -63,8 +64,8 @@ text-bound (b ∷ k) =
     (λ f. lt-leb (length (hex_bytes (b ∷ k))) 512 (omega (arith, hex_bytes-length (b ∷ k), leb-false (length (b ∷ k)) 256 f)) ∙ sym f)
 
 -- the text before the first key is empty, and a key's text is not
-first-follows : (k : List ℕ) → is_less (byte_order [] (hex_key k)) ≡ true
-unfolding hex_key hex_bytes byte_order is_less
+first-follows : (k : List ℕ) → is_lt (byte_order [] (hex_key k)) ≡ true
+unfolding hex_key hex_bytes byte_order
 first-follows [] = refl
 first-follows (b ∷ k) = refl
 
@@ -109,11 +110,10 @@ risen_end s t true = refl
 risen_end s t false = refl
 
 -- KEYS THAT RISE ASCEND, each of at most 256 bytes.
-is_less_lem : (o : Ordering) → is_less o ≡ true → o ≡ Less
-unfolding is_less
-is_less_lem Less e = refl
-is_less_lem Equal e = let z : ◌≡◌ {A = Bool} false true = e in cc
-is_less_lem Greater e = let z : ◌≡◌ {A = Bool} false true = e in cc
+is_lt_lem : (o : Ordering) → is_lt o ≡ true → o ≡ Less
+is_lt_lem Less e = refl
+is_lt_lem Equal e = let z : ◌≡◌ {A = Bool} false true = e in cc
+is_lt_lem Greater e = let z : ◌≡◌ {A = Bool} false true = e in cc
 
 abbrev Short : Pair → Type 0
 Short x = length x.key ≤ 256
@@ -125,10 +125,10 @@ above_ascending : (j : List ℕ) (xs : List Pair) → rise_above j xs ≡ true �
 unfolding rise_above Ascending
 above_ascending j [] e = (tt, tt, tt)
 above_ascending j (x ∷ xs) e =
-    let a = (and-eq-true_iff (leb (length x.key) 256 && is_less (byte_order j x.key)) (rise_above x.key xs)).0 e in
-    let b = (and-eq-true_iff (leb (length x.key) 256) (is_less (byte_order j x.key))).0 a.0 in
+    let a = (and-eq-true_iff (leb (length x.key) 256 && is_lt (byte_order j x.key)) (rise_above x.key xs)).0 e in
+    let b = (and-eq-true_iff (leb (length x.key) 256) (is_lt (byte_order j x.key))).0 a.0 in
     let rest = above_ascending x.key xs a.1 in
-    let up : byte_order j x.key ≡ Less = is_less_lem (byte_order j x.key) b.1 in (
+    let up : byte_order j x.key ≡ Less = is_lt_lem (byte_order j x.key) b.1 in (
       (up, all_map (Above x.key) (Above j) (λ z c. lex_cmp (lex_trans (cmp_less j x.key up) (cmp_less x.key z.key c))) xs rest.0),
       (rest.0, rest.1),
       (leb-true (length x.key) 256 b.0, rest.2),

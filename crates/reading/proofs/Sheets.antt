@@ -1,6 +1,8 @@
 -- THE READER IS THE INVERSE OF THE TEXT.
-use Rattle.std.specs.Prelude.{◌≡◌, ◌∷◌, ◌++◌, ◌<◌, ◌^◌}
-use Rattle.base.specs.Kit.{refl, ap, ap₂, sym, ◌∙◌, true, List, [], append_assoc, append-nil, ℕ, zero, suc, arith, length}
+use Rattle.std.specs.Prelude.{◌≡◌, ◌∷◌, ◌++◌, ◌<◌, ◌^◌, Result, Ok, Err}
+use Rattle.base.specs.Kit.{refl, ap, ap₂, sym, ◌∙◌, true, List, [], append_assoc, append-nil, ℕ, zero, suc, length}
+use Rattle.base.specs.declared.Decline.{Decline}
+use Rattle.base.specs.declared.Decline.TheVariants.{SheetForm, SheetOrder}
 use Rattle.base.proofs.Choice.{pick_ind}
 use Rattle.layering.specs.Keys.{Pair}
 use Rattle.layering.specs.Ascending.{All}
@@ -9,7 +11,7 @@ use Rattle.sheet.specs.Sheet as listing
 use Rattle.reading.specs.Form.{Sheet, text}
 use Rattle.reading.specs.Good.{GoodPair, Good}
 use Rattle.reading.specs.Read.{Got, none, got, next, word_number, read_key, station, stations, first_word, end_word, read_head, nothing_behind, read_end, body}
-use Rattle.reading.specs.Fault.{keys_rise, Answer, fault, sheet, judged, formed, read_sheet}
+use Rattle.reading.specs.Fault.{keys_rise, judged, formed, read_sheet}
 use Rattle.reading.proofs.Gets.{none-got, next-then, got_same}
 use Rattle.reading.proofs.Numbers.{word_number-text, word_number_of}
 use Rattle.reading.proofs.Keys.{read_key-text, read_key_of}
@@ -119,19 +121,19 @@ unfolding next after_head
 whole x h = rw (text_split x, head_of (length x.pairs) (after_head x) h.count) (body_of x h)
 
 module _ {x : Sheet} where
-  pub fault-sheet : (n : ℕ) → fault n ≡ sheet x → ⊥
-  fault-sheet n g = let z : ◌≡◌ {A = ℕ} 0 1 = cc in omega arith
+  pub fault-sheet : (d : Decline) → ◌≡◌ {A = Result Sheet Decline} (Err d) (Ok x) → ⊥
+  fault-sheet d g = cc
 
-  judged-sheet : (y : Sheet) → judged y ≡ sheet x → (y ≡ x) × (keys_rise y.pairs ≡ true)
+  judged-sheet : (y : Sheet) → judged y ≡ Ok x → (y ≡ x) × (keys_rise y.pairs ≡ true)
   unfolding judged
   judged-sheet y =
-      pick_ind (λ (a : Answer). a ≡ sheet x → (y ≡ x) × (keys_rise y.pairs ≡ true)) (keys_rise y.pairs)
+      pick_ind (λ (a : Result Sheet Decline). a ≡ Ok x → (y ≡ x) × (keys_rise y.pairs ≡ true)) (keys_rise y.pairs)
       (λ t g. let n : y ≡ x = cc in (n, t))
-      (λ f g. absurd (fault-sheet 32 g))
+      (λ f g. absurd (fault-sheet SheetOrder g))
 
-  pub formed-sheet : (g : Got Sheet) → formed g ≡ sheet x → (r : List ℕ) × (g ≡ got x r) × (keys_rise x.pairs ≡ true)
+  pub formed-sheet : (g : Got Sheet) → formed g ≡ Ok x → (r : List ℕ) × (g ≡ got x r) × (keys_rise x.pairs ≡ true)
   unfolding formed
-  formed-sheet none h = absurd (fault-sheet 31 h)
+  formed-sheet none h = absurd (fault-sheet SheetForm h)
   formed-sheet (got y r) h =
       let j = judged-sheet y h in
       (r, ap (λ (z : Sheet). got z r) j.0, rw j.0 at j.1)
@@ -143,7 +145,7 @@ pub record Said (s : List ℕ) (x : Sheet) : Type 0 where
   pub rise : keys_rise x.pairs ≡ true
 
 -- WHAT IS READ HAS THE TEXT THAT IT WAS READ FROM.
-pub read-text : (s : List ℕ) (x : Sheet) → read_sheet s ≡ sheet x → Said s x
+pub read-text : (s : List ℕ) (x : Sheet) → read_sheet s ≡ Ok x → Said s x
 unfolding read_sheet after_head
 read-text s x g =
     let o = formed-sheet (next (read_head s) body) g in
@@ -168,10 +170,10 @@ one-sheet x y g h t =
     cc same
 
 -- 31: no sheet has this text.
-pub no-sheet : (s : List ℕ) → read_sheet s ≡ fault 31 → (x : Sheet) → Good x → s ≡ text x → ⊥
+pub no-sheet : (s : List ℕ) → read_sheet s ≡ Err SheetForm → (x : Sheet) → Good x → s ≡ text x → ⊥
 unfolding judged
 no-sheet s e x g t =
-    let h : judged x ≡ fault 31 = sym (text_read x g) ∙ ap read_sheet (sym t) ∙ e in
-    pick_ind (λ (a : Answer). a ≡ fault 31 → ⊥) (keys_rise x.pairs)
-    (λ y k. fault-sheet 31 (sym k))
-    (λ n k. let z : ◌≡◌ {A = ℕ} 32 31 = cc in omega arith) h
+    let h : judged x ≡ Err SheetForm = sym (text_read x g) ∙ ap read_sheet (sym t) ∙ e in
+    pick_ind (λ (a : Result Sheet Decline). a ≡ Err SheetForm → ⊥) (keys_rise x.pairs)
+    (λ y k. fault-sheet SheetForm (sym k))
+    (λ n k. cc) h

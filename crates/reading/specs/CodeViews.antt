@@ -1,30 +1,37 @@
 -- What the code's answers say, as Read.antt says it: `next` is the place in s where the text behind a thing starts.
-use Rattle.std.specs.Prelude.{◌≡◌, ◌&&◌, ◌∷◌, ◌+◌, ◌*◌, ◌≤◌, ◌<◌}
-use Rattle.base.specs.Kit.{Bool, true, false, List, [], ℕ, leb, eqb, length, drop, sets}
+use Rattle.std.specs.Prelude.{◌≡◌, ◌&&◌, ◌∷◌, ◌+◌, ◌*◌, ◌-◌, ◌≤◌, ◌<◌, Option, None, Some, IfSome}
+use Rattle.std.specs.Ordering.{is_lt}
+use Rattle.base.specs.Kit.{Bool, true, false, List, [], ℕ, ltb, leb, eqb, length, drop, sets}
 use Rattle.base.specs.Pick.{pick}
 use Rattle.key.specs.Order.{byte_order}
 use Rattle.layering.specs.Keys.{Pair}
 use Rattle.sheet.specs.Sheet.{hex_key}
-use Rattle.reading.specs.Read.{Got, none, got, key_bytes, read_key, station}
-use Rattle.reading.specs.Fault.{is_less}
-use Rattle.reading.specs.declared.Number.{Number}
-use Rattle.reading.specs.declared.Byte.{Byte}
-use Rattle.reading.specs.declared.Run.{Run}
-use Rattle.reading.specs.declared.Text.{Text}
+use Rattle.reading.specs.Read.{Got, none, got, digit, nibble, key_bytes, read_key, station}
+use Rattle.reading.specs.declared.Found.{Found}
 use Rattle.reading.specs.declared.Line.{Line}
-use Rattle.reading.specs.declared.Passed.{Passed}
 
-unfoldable pub number_seen : List ℕ → Number → Got ℕ
-number_seen s r = pick r.found (got r.value (drop r.next s)) none
+-- What was found in s.
+abbrev pub found_seen : {A : Type 0} → List ℕ → Option (Found A) → Got A
+found_seen s None = none
+found_seen s (Some r) = got r.value (drop r.next s)
 
 -- A decimal, or a line's end with one, looked for from `at` on; g is what stands there.
-pub record NumberRead (g : Got ℕ) (s : List ℕ) (at : ℕ) (r : Number) : Type 0 where
-  pub seen : number_seen s r ≡ g
-  pub inside : r.next ≤ length s
-  pub on : r.found ≡ true → at ≤ r.next
+pub record NumberRead (g : Got ℕ) (s : List ℕ) (at : ℕ) (r : Option (Found ℕ)) : Type 0 where
+  pub seen : found_seen s r ≡ g
+  pub inside : IfSome r (λ n. (at ≤ n.next) × (n.next ≤ length s))
 
-unfoldable pub byte_seen : List ℕ → Byte → Got ℕ
-byte_seen s r = pick r.found (got r.byte (drop r.next s)) none
+-- The digit at the front of a text, by its number; and the number of a hex digit.
+unfoldable pub digit_seen : List ℕ → Option ℕ
+digit_seen [] = None
+digit_seen (b ∷ s) = pick (digit b) (Some (b - 48)) None
+
+unfoldable pub hex_digit_seen : ℕ → Option ℕ
+hex_digit_seen b = pick (ltb (nibble b) 16) (Some (nibble b)) None
+
+-- A byte as two hex digits, from `at` on.
+abbrev pub byte_seen : List ℕ → ℕ → Option ℕ → Got ℕ
+byte_seen s at None = none
+byte_seen s at (Some b) = got b (drop (at + 2) s)
 
 -- Whether a text starts with a word.
 unfoldable pub word_at : List ℕ → List ℕ → Bool
@@ -39,44 +46,38 @@ key_at (b ∷ s) = pick (eqb b 45) [] (key_bytes (b ∷ s)).key
 
 -- Bytes of a key taken while they stand there, as many as fit left in the buffer. `sets b 0 k` of the library is b with the bytes of k
 -- stored from its front on; what would lie past its end is left out.
-pub record RunRead (s : List ℕ) (at : ℕ) (buf buf' : List ℕ) (r : Run) : Type 0 where
+pub record RunRead (s : List ℕ) (at : ℕ) (buf buf' : List ℕ) (r : Found ℕ) : Type 0 where
   pub rest : (key_bytes (drop at s)).rest ≡ drop r.next s
-  pub len : r.len ≡ length (key_bytes (drop at s)).key
+  pub len : r.value ≡ length (key_bytes (drop at s)).key
   pub inside : r.next ≤ length s
-  pub on : at + 2 * r.len ≡ r.next
+  pub on : at + 2 * r.value ≡ r.next
   pub kept : buf' ≡ sets buf 0 (key_bytes (drop at s)).key
 
 -- A key k that was looked for.
-unfoldable pub key_seen : List ℕ → List ℕ → Text → Got (List ℕ)
-key_seen s k r = pick r.found (got k (drop r.next s)) none
+abbrev pub key_seen : List ℕ → List ℕ → Option (Found ℕ) → Got (List ℕ)
+key_seen s k None = none
+key_seen s k (Some r) = got k (drop r.next s)
 
 -- A key looked for at a place of s: what was found, its length, and the buffer, which holds as much of it as fits.
-pub record KeyRead (s : List ℕ) (at : ℕ) (buf buf' : List ℕ) (r : Text) : Type 0 where
+pub record KeyRead (s : List ℕ) (at : ℕ) (buf buf' : List ℕ) (r : Option (Found ℕ)) : Type 0 where
   pub seen : key_seen s (key_at (drop at s)) r ≡ read_key (drop at s)
-  pub len : r.len ≡ length (key_at (drop at s))
-  pub inside : r.next ≤ length s
-  pub on : r.found ≡ true → at < r.next
+  pub found : IfSome r (λ k. (k.value ≡ length (key_at (drop at s))) × (at < k.next) × (k.next ≤ length s))
   pub kept : buf' ≡ sets buf 0 (key_at (drop at s))
 
--- A station's line looked for at a place of s, zero elsewhere where there is none.
-unfoldable pub station_seen : List ℕ → List ℕ → Line → Got Pair
-station_seen s k r = pick r.found (got (record { key = k; value = r.value }) (drop r.next s)) none
+-- A station's line looked for at a place of s.
+abbrev pub station_seen : List ℕ → List ℕ → Option Line → Got Pair
+station_seen s k None = none
+station_seen s k (Some r) = got (record { key = k; value = r.value }) (drop r.next s)
 
-abbrev pub no_line : Line
-no_line = record { found = false; key_len = 0; value = 0; next = 0 }
-
-pub record StationRead (s : List ℕ) (at : ℕ) (buf buf' : List ℕ) (r : Line) : Type 0 where
+pub record StationRead (s : List ℕ) (at : ℕ) (buf buf' : List ℕ) (r : Option Line) : Type 0 where
   pub seen : station_seen s (key_at (drop at s)) r ≡ station (drop at s)
-  pub len : r.found ≡ true → r.key_len ≡ length (key_at (drop at s))
-  pub inside : r.next ≤ length s
-  pub on : r.found ≡ true → at < r.next
-  pub zeros : r.found ≡ false → r ≡ no_line
+  pub found : IfSome r (λ l. (l.key_len ≡ length (key_at (drop at s))) × (at < l.next) × (l.next ≤ length s))
   pub kept : buf' ≡ sets buf 0 (key_at (drop at s))
 
 -- The order of keys, read off their texts: u is the text of a key of at most 256 bytes above the one before, whose text is t, and empty
 -- before the first. It is `keys_rise` (proofs/Rising.antt).
 unfoldable pub follows : List ℕ → List ℕ → Bool
-follows t u = leb (length u) 512 && is_less (byte_order t u)
+follows t u = leb (length u) 512 && is_lt (byte_order t u)
 
 unfoldable pub texts_rise : List ℕ → List Pair → Bool
 texts_rise t [] = true
@@ -86,6 +87,3 @@ texts_rise t (x ∷ xs) = follows t (hex_key x.key) && texts_rise (hex_key x.key
 unfoldable pub risen : List ℕ → Bool → Got (List Pair) → Got Bool
 risen t ok none = none
 risen t ok (got xs q) = got (ok && texts_rise t xs) q
-
-unfoldable pub passed_seen : List ℕ → Passed → Got Bool
-passed_seen s r = pick r.found (got r.rising (drop r.next s)) none

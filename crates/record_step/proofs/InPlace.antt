@@ -1,11 +1,11 @@
 -- A step on a record in place: the record with the next slot's key in it is the record's step.
-use Rattle.std.specs.Prelude.{◌≡◌, ◌+◌, ◌≤◌}
-use Rattle.base.specs.Kit.{refl, sym, ◌∙◌, ap, Bool, true, false, List, ℕ, arith, eqb, length, get_or}
+use Rattle.std.specs.Prelude.{◌≡◌, ◌+◌, ◌≤◌, Some, None, Ok}
+use Rattle.base.specs.Kit.{refl, sym, ◌∙◌, ap, Bool, true, false, List, ℕ, arith, length, get_or}
 use Rattle.base.specs.Pick.{pick}
-use Rattle.base.proofs.Choice.{pick_ind}
+use Rattle.base.specs.Decline.{number_of}
 use Rattle.key.specs.Part.{part}
 use Rattle.node.specs.Layout.{InSlot}
-use Rattle.record_step.specs.Types.{Slot, CursorPlace, At, Out, Past, HandedOut, Walk, WalkState, FindNext, Ended, Key, Nothing}
+use Rattle.record_step.specs.Types.{Slot, CursorPlace, Out, Past, HandedOut, Walk, WalkState, FindNext, Ended, Decline}
 use Rattle.cursor.specs.CursorKey.{with_ikey, with_length}
 use Rattle.search.specs.Traversal.{leaf_there}
 use Rattle.moves.specs.Moves.{onward, is_storable, key_place, key_buf}
@@ -14,9 +14,9 @@ use Rattle.moves.specs.CodeFastPath.{fast_slot, next_key}
 use Rattle.search.proofs.Laws.{leaf_there_lem}
 use Rattle.moves.proofs.StoredKey.{key_fits}
 use Rattle.moves.proofs.FastLaws.{fast_facts, next_place}
-use Rattle.walk.specs.Walk.{one_more, walk_ok, number_of, answer_numbers}
-use Rattle.scan.specs.Machine.{is_ended, ctx_of, walk_of, after_key}
-use Rattle.scan.specs.CodeLoop.{gone_number}
+use Rattle.walk.specs.Walk.{one_more, walk_ok, answer_numbers}
+use Rattle.scan.specs.Machine.{is_ended, key_out, ctx_of, walk_of, after_key}
+use Rattle.scan.specs.CodeLoop.{no_leaf}
 use Rattle.walk.proofs.NumberLaws.{walk-fits}
 use Rattle.scan.proofs.BeginLaws.{in_range_lem, step_advances}
 use Rattle.scan.proofs.StepLaws as step
@@ -32,9 +32,6 @@ use Rattle.record_step.proofs.Steps.{declined, taken}
 state-next : (n : ℕ) → n ≡ state_number FindNext → state_of n ≡ FindNext
 unfolding state_number state_of pick
 state-next n e = rw e
-
-gone-not-zero : (n : ℕ) → gone_number n ≡ 0 → ⊥
-gone-not-zero n = pick_ind (λ m. m ≡ 0 → ⊥) (eqb n 0) (λ t z. omega arith) (λ t z. omega arith)
 
 -- a key in a walk's numbers is the key in the walk
 put_in : (w : Walk) (k : CursorPlace) (b : List ℕ) (state : WalkState) (handed : HandedOut) → k.offset ≡ w.cursor.offset
@@ -73,7 +70,7 @@ module _ (n b k image : List ℕ) (is : is_record n b k ≡ true) (ok : numbers_
   unfolding read_walk
   offset_low = omega (arith, in-numbers.place, in-numbers.deep)
 
-  module _ (there : leaf_there image (get_or n leaf_at 0) ≡ true) (slot : Slot) (e : fast_slot image (get_or n leaf_at 0) (record { 0 = get_or n position_at 0 }) (place_of n) ≡ At slot) where
+  module _ (there : leaf_there image (get_or n leaf_at 0) ≡ true) (slot : Slot) (e : fast_slot image (get_or n leaf_at 0) (record { 0 = get_or n position_at 0 }) (place_of n) ≡ Some slot) where
     pub ready : Steppable n b k image slot
     unfolding read_walk
     ready =
@@ -95,14 +92,13 @@ module _ (n b k image : List ℕ) (is : is_record n b k ≡ true) (ok : numbers_
 
   module _ (out : List ℕ) (said_fits : length out ≡ said_in) where
     -- its leaf is not there
-    pub leaf_gone : leaf_there image (get_or n leaf_at 0) ≡ false → (r : ℕ) → r ≡ gone_number (length image) → StepMade n b k image out r n b out
-    unfolding number_of read_walk
-    leaf_gone e r f =
-        declined n b k image out said_fits is w refl _ (step.gone w image walk-next e r f ∙ step_advances w image walk_ok_lem (ap is_ended walk-next)) r refl
-        (λ z. gone-not-zero (length image) (sym f ∙ z))
+    pub leaf_gone : leaf_there image (get_or n leaf_at 0) ≡ false → (d : Decline) → d ≡ no_leaf (length image) → StepMade n b k image out (number_of d) n b out
+    unfolding read_walk
+    leaf_gone e d f =
+        declined n b k image out said_fits is w refl _ (step.gone w image walk-next e d f ∙ step_advances w image walk_ok_lem (ap is_ended walk-next)) d refl
 
     -- its next slot is fast: c and buf are cursor and buffer with the key
-    module _ (there : leaf_there image (get_or n leaf_at 0) ≡ true) (slot : Slot) (e : fast_slot image (get_or n leaf_at 0) (record { 0 = get_or n position_at 0 }) (place_of n) ≡ At slot)
+    module _ (there : leaf_there image (get_or n leaf_at 0) ≡ true) (slot : Slot) (e : fast_slot image (get_or n leaf_at 0) (record { 0 = get_or n position_at 0 }) (place_of n) ≡ Some slot)
         (bytes : List ℕ) (eb : bytes ≡ part k 0 (get_or n bound_len_at 0))
         (c : CursorPlace) (buf : List ℕ) (ek : buf ≡ key_buf image (get_or n leaf_at 0) slot (get_or n offset_at 0) b) (out' : List ℕ) where
       offset-is : c ≡ key_place image (get_or n leaf_at 0) slot (place_of n) → c.offset ≡ w.cursor.offset
@@ -115,18 +111,18 @@ module _ (n b k image : List ℕ) (is : is_record n b k ≡ true) (ok : numbers_
 
       pub key-out : (value : ℕ) (last : Bool) → Out c value last ≡ next_key image (get_or n kind_at 0) bytes b (get_or n leaf_at 0) slot (place_of n)
           → (handed : HandedOut) → handed ≡ one_more (read_handed n) (get_or n depth_at 0)
-          → out' ≡ answer_numbers (Key (c.offset + c.len) value) 1 handed → StepMade n b k image out 0 (key_numbers n c (after_key last) handed) buf out'
-      unfolding number_of read_walk read_handed onward
+          → out' ≡ answer_numbers (key_out (c.offset + c.len) value) 1 handed → StepMade n b k image out 0 (key_numbers n c (after_key last) handed) buf out'
+      unfolding read_walk read_handed onward
       key-out value last f handed eh eo =
-          taken n b k image out said_fits is w refl _ (step.out w image walk-next there slot e bytes eb c buf ek value last f ∙ step_advances w image walk_ok_lem (ap is_ended walk-next)) 0 refl refl _ _ _
+          taken n b k image out said_fits is w refl _ (step.out w image walk-next there slot e bytes eb c buf ek value last f ∙ step_advances w image walk_ok_lem (ap is_ended walk-next)) _ refl _ _ _
           (rw eh (written (after_key last) _ (offset-is (next_place image _ _ b _ slot _ _ f)))) refl (rw eh at eo)
 
       pub key-past : Past c ≡ next_key image (get_or n kind_at 0) bytes b (get_or n leaf_at 0) slot (place_of n)
           → (handed : HandedOut) → handed ≡ read_handed n
-          → out' ≡ answer_numbers Nothing 1 handed → StepMade n b k image out 0 (key_numbers n c Ended handed) buf out'
-      unfolding number_of read_walk read_handed
+          → out' ≡ answer_numbers (Ok None) 1 handed → StepMade n b k image out 0 (key_numbers n c Ended handed) buf out'
+      unfolding read_walk read_handed
       key-past f handed eh eo =
-          taken n b k image out said_fits is w refl _ (step.past w image walk-next there slot e bytes eb c buf ek f ∙ step_advances w image walk_ok_lem (ap is_ended walk-next)) 0 refl refl _ _ _
+          taken n b k image out said_fits is w refl _ (step.past w image walk-next there slot e bytes eb c buf ek f ∙ step_advances w image walk_ok_lem (ap is_ended walk-next)) _ refl _ _ _
           (rw eh (written Ended _ (offset-is (next_place image _ _ b _ slot _ _ f)))) refl (rw eh at eo)
 
 -- a record that was tested: its walk was

@@ -1,9 +1,9 @@
 -- THE THEOREM `step_keeps`: after a step of a record's walk the record, with the bound that it had, is again a walk's, and reads back
 -- as the walk after the step. Every move keeps the lengths of buffer and stack (scan/proofs/Kept.antt), and no step changes the bound.
-use Rattle.std.specs.Prelude.{◌≡◌}
+use Rattle.std.specs.Prelude.{◌≡◌, Some, None, Ok, Err}
 use Rattle.base.specs.Kit.{refl, ap, subst, Bool, true, not, List, ℕ, length, take, not-false}
 use Rattle.base.proofs.Choice.{pick_ind}
-use Rattle.record_step.specs.Types.{RangeBound, Walk, Answer, Key, Nothing, Declined, Stepped}
+use Rattle.record_step.specs.Types.{RangeBound, Walk, Answer, Stepped}
 use Rattle.walk.specs.Walk.{walk_ok}
 use Rattle.scan.specs.Machine.{Scan, run, is_ended, scan_of, stepped, finished, advance, step}
 use Rattle.scan.proofs.BeginLaws.{starts_between}
@@ -19,9 +19,9 @@ Same w r = Arrays r.walk × (r.walk.bound ≡ w.bound)
 
 module _ (w : Walk) (a : Arrays w) where
   stepped_kept : (answer : Answer) (last : Bool) (moves : ℕ) (s : Scan) → Long s → Same w (stepped w answer last moves s)
-  stepped_kept (Key len value) last moves s l = (record { stack_is = l.1; buf-is = l.0; key-is = a.key-is; kind_fits = a.kind_fits }, refl)
-  stepped_kept Nothing last moves s l = (record { stack_is = l.1; buf-is = l.0; key-is = a.key-is; kind_fits = a.kind_fits }, refl)
-  stepped_kept (Declined n) last moves s l = (a, refl)
+  stepped_kept (Ok (Some key)) last moves s l = (record { stack_is = l.1; buf-is = l.0; key-is = a.key-is; kind_fits = a.kind_fits }, refl)
+  stepped_kept (Ok None) last moves s l = (record { stack_is = l.1; buf-is = l.0; key-is = a.key-is; kind_fits = a.kind_fits }, refl)
+  stepped_kept (Err d) last moves s l = (a, refl)
 
   pub step_kept : (image : List ℕ) → Same w (step w image)
   unfolding step advance finished scan_of

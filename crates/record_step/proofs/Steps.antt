@@ -1,10 +1,13 @@
 -- The ways a step over a lent record comes out, one law for each.
-use Rattle.std.specs.Prelude.{◌≡◌}
-use Rattle.base.specs.Kit.{sym, ◌∙◌, true, false, List, ℕ, arith, length, eq-eqb, ne_eqb}
+use Rattle.std.specs.Prelude.{◌≡◌, Option, Ok, Err}
+use Rattle.base.specs.Kit.{sym, ap, ◌∙◌, true, false, List, ℕ, arith, length, eq-eqb, ne_eqb}
 use Rattle.base.specs.Pick.{pick}
-use Rattle.walk.specs.Walk.{number_of, answer_numbers}
+use Rattle.base.specs.Decline.{number_of}
+use Rattle.base.specs.declared.Decline.{Decline}
+use Rattle.walk.specs.Walk.{number_of as walk_number, answer_numbers}
+use Rattle.walk.proofs.PlaceLaws.{not-zero}
 use Rattle.scan.specs.Machine.{step}
-use Rattle.record_step.specs.Types.{Walk, Stepped}
+use Rattle.record_step.specs.Types.{Walk, KeyOut, Stepped}
 use Rattle.walk_record.specs.Record.{is_record, read_walk, numbers_of}
 use Rattle.record_step.specs.Step.{said_in, step_number, left, step_numbers, step_buf}
 use Rattle.record_step.specs.CodeStep.{step_out, StepMade}
@@ -31,18 +34,19 @@ module _ (n b k image out : List ℕ) where
 
     -- a step of the record's walk
     module _ (is : is_record n b k ≡ true) (w : Walk) (read : w ≡ read_walk n b k) (s : Stepped) (made : s ≡ step w image) where
-      number : number_of s.answer ≡ step_number n b k image out
+      number : walk_number s.answer ≡ step_number n b k image out
       unfolding step_number pick
       number = rw (made, read, eq-eqb _ _ room, is)
 
-      pub declined : (r : ℕ) → r ≡ number_of s.answer → (r ≡ 0 → ⊥)
-          → StepMade n b k image out r n b out
-      declined r e h = same r (e ∙ number) h
+      pub declined : (d : Decline) → s.answer ≡ Err d
+          → StepMade n b k image out (number_of d) n b out
+      unfolding walk_number
+      declined d e = same (number_of d) (ap walk_number (sym e) ∙ number) (not-zero d)
 
-      pub taken : (r : ℕ) → r ≡ number_of s.answer → r ≡ 0
+      pub taken : (key : Option KeyOut) → s.answer ≡ Ok key
           → (n' b' out' : List ℕ) → n' ≡ numbers_of s.walk → b' ≡ s.walk.cursor.buf → out' ≡ answer_numbers s.answer s.moves s.handed
           → StepMade n b k image out 0 n' b' out'
-      unfolding step_numbers step_buf step_out left pick
-      taken r e z n' b' out' en eb eo =
-          let t : step_number n b k image out ≡ 0 = sym number ∙ sym e ∙ z in
+      unfolding step_numbers step_buf step_out left pick walk_number
+      taken key z n' b' out' en eb eo =
+          let t : step_number n b k image out ≡ 0 = sym number ∙ ap walk_number z in
           record { number = sym t; numbers-left = rw (t, ← read, ← made) en; buf-left = rw (t, ← read, ← made) eb; out-left = rw (t, ← read, ← made) eo }

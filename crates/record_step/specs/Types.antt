@@ -1,12 +1,12 @@
 -- The types of code that this crate's definitions and proofs speak of, each with the variants that they name.
+pub use Rattle.base.specs.declared.Decline.{Decline}
 pub use Rattle.cursor.specs.declared.cursor_key.CursorPlace.{CursorPlace}
 pub use Rattle.cursor.specs.declared.range_bound.RangeBound.{RangeBound}
-pub use Rattle.moves.specs.declared.fast_path.FastSlot.TheVariants.{At}
 pub use Rattle.moves.specs.declared.fast_path.NextKey.TheVariants.{Out, Past}
 pub use Rattle.node.specs.declared.permuter.Slot.{Slot}
-pub use Rattle.walk.specs.declared.scan_state.Answer.{Answer}
-pub use Rattle.walk.specs.declared.scan_state.Answer.TheVariants.{Key, Nothing, Declined}
+pub use Rattle.walk.specs.Types.{Answer}
 pub use Rattle.walk.specs.declared.scan_state.HandedOut.{HandedOut}
+pub use Rattle.walk.specs.declared.scan_state.KeyOut.{KeyOut}
 pub use Rattle.walk.specs.declared.scan_state.Stepped.{Stepped}
 pub use Rattle.walk.specs.declared.scan_state.Walk.{Walk}
 pub use Rattle.walk.specs.declared.scan_state.WalkState.{WalkState}

@@ -9,40 +9,27 @@ ghost use Rattle.record_step.specs.CodeInPlace.{numbers_ok, place_of, key_number
 use cursor::cursor_key::CursorPlace;
 use walk::handed_out;
 use walk::scan_state::{HandedOut, WalkState};
+use walk::walk_ok::WalkNumbers;
 use walk_record::{layout, record};
 
 // Whether a record's numbers are in range, over an image of n bytes (01's 21).
+#[tactic(auto, unfolding(crate::specs::CodeInPlace::numbers_ok, walk_record::specs::Record::read_walk, walk::specs::Walk::walk_ok))]
 pub fn is_numbers_ok(numbers: &[u64], n: usize) -> bool
     requires { length numbers.now ≡ numbers_in }
     ensures { result ≡ numbers_ok numbers.now n }
 {
-    let depth = numbers[layout::DEPTH];
-    let offset = numbers[layout::OFFSET];
-    if numbers[layout::IMAGE_LEN] != n as u64 {
-        return false;
-    }
-    if 31 < depth {
-        return false;
-    }
-    if offset != 8 * depth {
-        return false;
-    }
-    if 256 - offset < numbers[layout::LEN] {
-        return false;
-    }
-    if 15 < numbers[layout::POSITION] {
-        return false;
-    }
-    if 2 < numbers[layout::KIND] {
-        return false;
-    }
-    if 256 < numbers[layout::BOUND_LEN] {
-        return false;
-    }
-    if 31 < numbers[layout::LAST_DEPTH] {
-        return false;
-    }
-    numbers[layout::COUNT] <= n as u64
+    let walk = WalkNumbers {
+        image_len: numbers[layout::IMAGE_LEN] as usize,
+        depth: numbers[layout::DEPTH] as usize,
+        offset: numbers[layout::OFFSET] as usize,
+        len: numbers[layout::LEN] as usize,
+        position: numbers[layout::POSITION] as usize,
+        kind: numbers[layout::KIND] as usize,
+        bound_len: numbers[layout::BOUND_LEN] as usize,
+        last_depth: numbers[layout::LAST_DEPTH] as usize,
+        count: numbers[layout::COUNT] as usize,
+    };
+    walk.is_in_range(n)
 }
 
 // The cursor of a record's walk.
@@ -58,6 +45,7 @@ pub fn place_of(numbers: &[u64]) -> CursorPlace
 }
 
 // What a record's walk has handed out with one key more, which is found at the walk's depth.
+#[tactic(auto, unfolding(walk_record::specs::CodeLaid::read_handed))]
 pub fn one_more_of(numbers: &[u64]) -> HandedOut
     requires numbers_len { length numbers.now ≡ numbers_in }
     requires count_at_bound { get_or numbers.now count_at 0 < 2 ^ 63 }
@@ -70,12 +58,13 @@ pub fn one_more_of(numbers: &[u64]) -> HandedOut
 }
 
 // The numbers one position on, with a key, a state, and what the walk has handed out.
+#[tactic(auto, unfolding(crate::specs::CodeInPlace::key_numbers))]
 pub fn put_key(numbers: &mut [u64], k: CursorPlace, state: WalkState, handed: HandedOut)
     requires numbers_len { length numbers.old ≡ numbers_in }
     requires position_at_bound { get_or numbers.old position_at 0 ≤ 15 }
     ensures { numbers.new ≡ key_numbers numbers.old k state handed }
 {
-    numbers[layout::POSITION] = numbers[layout::POSITION] + 1;
+    numbers[layout::POSITION] += 1;
     numbers[layout::LEN] = k.len as u64;
     numbers[layout::IKEY] = k.ikey;
     numbers[layout::STATE] = record::state_number(state);

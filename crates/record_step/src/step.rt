@@ -1,25 +1,28 @@
 // A step of a record. Most hand out the next slot's key: they are made on the record where it is, by moves' fast path, and no walk is
 // built for them.
-ghost use Rattle.std.specs.Prelude.{◌≡◌};
+ghost use Rattle.std.specs.Prelude.{◌≡◌, Some};
 ghost use Rattle.base.specs.Kit.{true, length, get_or};
 ghost use Rattle.search.specs.Traversal.{leaf_there};
 ghost use Rattle.moves.specs.CodeFastPath.{fast_slot};
-ghost use Rattle.record_step.specs.Types.{At, FindNext};
+ghost use Rattle.record_step.specs.Types.{FindNext};
 ghost use Rattle.walk.specs.Walk.{walk_ok};
 ghost use Rattle.scan.specs.Machine.{step};
 ghost use Rattle.walk_record.specs.Record.{leaf_at, position_at, state_at, state_number, is_record};
 ghost use Rattle.record_step.specs.CodeInPlace.{numbers_ok, place_of};
 ghost use Rattle.record_step.specs.Step.{said_in};
-ghost use Rattle.record_step.specs.CodeStep.{StepMade};
+ghost use Rattle.record_step.specs.CodeStep.{number_made, StepMade};
 
 use crate::in_place;
-use moves::fast_path::{FastSlot, NextKey};
+use base::Decline;
+use cursor::range_bound::End;
+use moves::fast_path::NextKey;
 use moves::{fast_path, stored_key};
+use node::leaf::LeafReader;
 use node::permuter::{Position, Slot};
 use scan::forward_ctx;
 use search::traversal;
 use walk::answer;
-use walk::scan_state::{Answer, Stepped, Walk, WalkState};
+use walk::scan_state::{KeyOut, Stepped, Walk, WalkState};
 use walk_record::{layout, record};
 
 // A step of a walk. `tested` tells that its first move has tested its leaf's version.
@@ -28,12 +31,13 @@ fn step_of(walk: Walk, image: &[u8], tested: bool) -> Stepped
     ensures { result ≡ step walk image.now }
 {
     if tested {
-        return forward_ctx::advance_no_alloc(walk, image, true);
+        forward_ctx::advance_no_alloc(walk, image, true)
+    } else {
+        scan::step::step(walk, image)
     }
-    scan::step::step(walk, image)
 }
 
-// The step by way of the record's walk.
+// The step by way of the record's walk. The slices go one by one, as C lends them.
 fn step_walk(
     numbers: &mut [u64],
     buf: &mut [u8],
@@ -41,22 +45,17 @@ fn step_walk(
     image: &[u8],
     out: &mut [u64],
     tested: bool,
-) -> u8
+) -> Result<(), Decline>
     requires out_len { length out.old ≡ said_in }
     requires bound_value { is_record numbers.old buf.old bound.now ≡ true }
     requires image_value { tested ≡ true → (numbers_ok numbers.old (length image.now) ≡ true) × (get_or numbers.old state_at 0 ≡ state_number FindNext) × (leaf_there image.now (get_or numbers.old leaf_at 0) ≡ true) }
-    ensures { StepMade numbers.old buf.old bound.now image.now out.old result numbers.new buf.new out.new }
+    ensures { StepMade numbers.old buf.old bound.now image.now out.old (number_made result) numbers.new buf.new out.new }
 {
     let s = step_of(record::read_walk(numbers, buf, bound), image, tested);
-    let answer = s.answer;
-    let code = answer::answer_number(answer);
-    if code != 0 {
-        return code;
-    }
+    let key = s.answer?;
     record::put_moved(s.walk, numbers, buf);
-    let said = answer::answer_numbers(answer, s.moves, s.handed);
-    record::copy_words(out, &said);
-    0
+    out.copy_from_slice(&answer::answer_numbers(Ok(key), s.moves, s.handed));
+    Ok(())
 }
 
 // The step that hands out a fast slot's key, or ends by it: the key goes into the buffer, and the numbers are changed in place.
@@ -67,58 +66,70 @@ fn step_fast(
     image: &[u8],
     out: &mut [u64],
     slot: Slot,
-) -> u8
+)
     requires out_len { length out.old ≡ said_in }
     requires bound_value { is_record numbers.old buf.old bound.now ≡ true }
     requires image_value { numbers_ok numbers.old (length image.now) ≡ true }
     requires state_at_value { get_or numbers.old state_at 0 ≡ state_number FindNext }
     requires leaf_at_value { leaf_there image.now (get_or numbers.old leaf_at 0) ≡ true }
-    requires numbers_value { fast_slot image.now (get_or numbers.old leaf_at 0) (record { 0 = get_or numbers.old position_at 0 }) (place_of numbers.old) ≡ At slot }
-    ensures { StepMade numbers.old buf.old bound.now image.now out.old result numbers.new buf.new out.new }
+    requires numbers_value { fast_slot image.now (get_or numbers.old leaf_at 0) (record { 0 = get_or numbers.old position_at 0 }) (place_of numbers.old) ≡ Some slot }
+    ensures { StepMade numbers.old buf.old bound.now image.now out.old 0 numbers.new buf.new out.new }
 {
     let k = in_place::place_of(numbers);
-    let kind = numbers[layout::KIND] as u8;
-    let end = key::part_of(bound, 0, numbers[layout::BOUND_LEN] as usize);
-    let leaf = numbers[layout::LEAF] as usize;
-    let stored = stored_key::store_key(image, leaf, slot, buf, k);
-    let next = fast_path::hand_out(image, kind, end, buf, leaf, slot, stored);
-    match next {
+    let end = End {
+        kind: numbers[layout::KIND] as u8,
+        key: key::part_of(bound, 0, numbers[layout::BOUND_LEN] as usize),
+    };
+    let leaf = LeafReader {
+        image,
+        at: numbers[layout::LEAF] as usize,
+    };
+    let stored = stored_key::store_key(leaf, slot, buf, k);
+    match fast_path::hand_out(leaf, end, buf, slot, stored) {
         NextKey::Out { k, value, last } => {
             let len = k.offset + k.len;
             let handed = in_place::one_more_of(numbers);
             in_place::put_key(numbers, k, forward_ctx::after_key(last), handed);
-            let said = answer::answer_numbers(Answer::Key { len, value }, 1, handed);
-            record::copy_words(out, &said);
-            0
+            let key = Ok(Some(KeyOut { len, value }));
+            out.copy_from_slice(&answer::answer_numbers(key, 1, handed));
         }
         NextKey::Past(k) => {
             let handed = record::read_handed(numbers);
             in_place::put_key(numbers, k, WalkState::Ended, handed);
-            let said = answer::answer_numbers(Answer::Nothing, 1, handed);
-            record::copy_words(out, &said);
-            0
+            out.copy_from_slice(&answer::answer_numbers(Ok(None), 1, handed));
         }
     }
 }
 
 // The step of a record whose walk has handed out a key.
-fn step_next(numbers: &mut [u64], buf: &mut [u8], bound: &[u8], image: &[u8], out: &mut [u64]) -> u8
+fn step_next(
+    numbers: &mut [u64],
+    buf: &mut [u8],
+    bound: &[u8],
+    image: &[u8],
+    out: &mut [u64],
+) -> Result<(), Decline>
     requires out_len { length out.old ≡ said_in }
     requires bound_value { is_record numbers.old buf.old bound.now ≡ true }
     requires image_value { numbers_ok numbers.old (length image.now) ≡ true }
     requires state_at_value { get_or numbers.old state_at 0 ≡ state_number FindNext }
-    ensures { StepMade numbers.old buf.old bound.now image.now out.old result numbers.new buf.new out.new }
+    ensures { StepMade numbers.old buf.old bound.now image.now out.old (number_made result) numbers.new buf.new out.new }
 {
     if !traversal::is_leaf_there(image, numbers[layout::LEAF]) {
-        return forward_ctx::gone_number(image.len());
+        return Err(forward_ctx::no_leaf(image.len()));
     }
     let k = in_place::place_of(numbers);
-    let leaf = numbers[layout::LEAF] as usize;
+    let leaf = LeafReader {
+        image,
+        at: numbers[layout::LEAF] as usize,
+    };
     let position = Position(numbers[layout::POSITION] as usize);
-    let fast = fast_path::fast_slot(image, leaf, position, k);
-    match fast {
-        FastSlot::Slow => step_walk(numbers, buf, bound, image, out, true),
-        FastSlot::At(slot) => step_fast(numbers, buf, bound, image, out, slot),
+    match fast_path::fast_slot(leaf, position, k) {
+        None => step_walk(numbers, buf, bound, image, out, true),
+        Some(slot) => {
+            step_fast(numbers, buf, bound, image, out, slot);
+            Ok(())
+        }
     }
 }
 
@@ -129,10 +140,10 @@ pub fn step_record(
     bound: &[u8],
     image: &[u8],
     out: &mut [u64],
-) -> u8
+) -> Result<(), Decline>
     requires out_len { length out.old ≡ said_in }
     requires bound_value { is_record numbers.old buf.old bound.now ≡ true }
-    ensures { StepMade numbers.old buf.old bound.now image.now out.old result numbers.new buf.new out.new }
+    ensures { StepMade numbers.old buf.old bound.now image.now out.old (number_made result) numbers.new buf.new out.new }
 {
     if numbers[layout::STATE] == record::state_number(WalkState::FindNext) {
         if in_place::is_numbers_ok(numbers, image.len()) {

@@ -1,19 +1,25 @@
--- What holds of what is read. The input itself is free, and no contract can say what it has: what is fixed is that every length is
--- that of bytes which stand in the buffer or array they were read into.
-use Rattle.std.specs.Prelude.{◌≤◌}
-use Rattle.base.specs.Kit.{ℕ}
-use Rattle.requests.specs.declared.Read.{Read}
-use Rattle.requests.specs.declared.Read.TheVariants.{Number, End}
+-- What holds of what is read. The input itself is free, and no contract can say what it has: what is fixed is that no field is longer
+-- than its limit. That a length is that of bytes which are there holds by the types.
+use Rattle.std.specs.Prelude.{◌≡◌, ◌≤◌, string_bytes}
+use Rattle.base.specs.Kit.{List, ℕ, length}
+use Rattle.requests.specs.declared.Mode.{Mode}
+use Rattle.requests.specs.declared.Mode.TheVariants.{Above, From, Short}
 use Rattle.requests.specs.declared.Request.{Request}
 
--- A number of bytes read, in a buffer of m.
-unfoldable pub Within : Read → ℕ → Type 0
-Within (Number n) m = n ≤ m
-Within End m = Unit {0}
+-- n is a start mode's number.
+abbrev pub NamesMode : ℕ → Mode → Type 0
+NamesMode n Above = n ≡ 0
+NamesMode n From = n ≡ 1
+NamesMode n Short = 2 ≤ n
 
--- A request, whose image is in a buffer of m.
-pub record Fits (r : Request) (m : ℕ) : Type 0 where
-  pub name : r.name_len ≤ 256
-  pub cursor : r.cursor_len ≤ 512
-  pub bound : r.bound_len ≤ 512
-  pub image : r.image_len ≤ m
+-- Bytes read, at most m.
+abbrev pub Within : ℕ → List ℕ → Type 0
+Within m bytes = length bytes ≤ m
+
+-- A request.
+pub record Fits (r : Request) : Type 0 where
+  pub name : Within 256 (string_bytes r.name)
+  pub cursor : Within 512 r.cursor.items
+  pub bound : Within 512 r.bound.items
+  pub image : Within 65536 r.image.items
+  pub changes : Within 512 r.changes.items

@@ -1,167 +1,170 @@
-// Reads requests from standard input, and prints. A request is a name's length and the name; the form, the start mode and the bound's
-// kind, a byte each; the cursor's length in two bytes and the cursor; the bound key's likewise and the key; the image's length in four
-// and the image, at most 65,536 bytes. What a program reads behind it, it reads by `field`.
+// Reads requests from standard input, and shows keys. A request is a name's length and the name; the form, the start mode and the
+// bound's kind, a byte each; the cursor's length in two bytes and the cursor; the bound key's likewise and the key; the image's length
+// in four and the image, at most 65,536 bytes. One with changes has behind it their length in two bytes and the changes.
 //
-// What reads takes the input, a reader, and what prints the handle that prints. A read that fails counts as the input's end, and of a
-// write that fails nothing is said.
+// A read that fails counts as the input's end, as do a length past its limit and a name that is no text. Memory that runs out is an
+// error.
 //
-// Interface: `read_request` and `field` read, and specs/Requests.antt has what holds of what they hand back, the input itself being free;
-// `put`, `item`, `line`, `put_hex` and `put_pair` print and hand nothing back. None has a `requires`.
+// Interface: `Requests`, an iterator, and `KeyText`, which shows a key. specs/Requests.antt has what holds of what is read, the input
+// itself being free. None has a `requires`.
 #![tactic(auto)]
 
-ghost use Rattle.std.specs.Prelude.{◌≡◌, ◌≤◌};
-ghost use Rattle.base.specs.Kit.{true, length};
-ghost use Rattle.requests.specs.Requests.{Within, Fits};
+ghost use Rattle.std.specs.Prelude.{◌≡◌, true, false, IfOk, IfSome};
+ghost use Rattle.std.specs.Iterator.{at_most};
+ghost use Rattle.requests.specs.Requests.{NamesMode, Within, Fits};
 
-use key::first;
-use node::le;
 use sheet::LINE;
-use std::io;
+use std::alloc::Global;
+use std::io::{ErrorKind, Read};
+use std::{fmt, io};
 
-// A number of the input, or its end.
-#[derive(Clone, Copy)]
-pub enum Read {
-    Number(usize),
-    End,
-}
-
-// A request but for its image, whose length is here; each array begins with as many bytes as its length says. `more`: whether the
-// input had one.
-#[derive(Clone, Copy)]
+/// A request. What its form means is each program's.
+#[derive(Drop)]
 pub struct Request {
-    pub more: bool,
-    pub name: [u8; 256],
-    pub name_len: usize,
+    pub name: String,
     pub form: u8,
-    pub mode: u8,
+    pub mode: Mode,
     pub kind: u8,
-    pub cursor: [u8; 512],
-    pub cursor_len: usize,
-    pub bound: [u8; 512],
-    pub bound_len: usize,
-    pub image_len: usize,
+    pub cursor: Vec<u8>,
+    pub bound: Vec<u8>,
+    pub image: Vec<u8>,
+    pub changes: Vec<u8>,
 }
 
-pub fn put(rt: &impl Print, text: &[u8]) {
-    let _ = rt.write_all(text);
+/// Where a request's walk starts: 0 is above the cursor, 1 from it, and any other the short form.
+#[derive(Clone, Copy, Debug, PartialEq, Eq)]
+pub enum Mode {
+    Above,
+    From,
+    Short,
 }
 
-// A word and a number.
-pub fn item(rt: &impl Print, word: &[u8], n: u64) {
-    put(rt, word);
-    let _ = rt.print(n);
-}
+impl From<u8> for Mode {
+    ghost from_gives = { NamesMode };
 
-// A line of a name, a word and a number.
-pub fn line(rt: &impl Print, name: &[u8], word: &[u8], n: usize) {
-    put(rt, name);
-    item(rt, word, n as u64);
-    put(rt, b"\n");
-}
-
-// A key in hex, `-` for none, and its value: a sheet's line.
-pub fn put_pair(rt: &impl Print, bytes: &[u8], value: u64) {
-    let mut space = [0u8; LINE];
-    let n = sheet::pair_line(&mut space, bytes, value);
-    put(rt, first(&space, n));
-}
-
-// Some bytes in hex, `-` for none: the front of a sheet's line, which ends in a space, a digit and a newline.
-pub fn put_hex(rt: &impl Print, bytes: &[u8]) {
-    let mut space = [0u8; LINE];
-    let n = sheet::pair_line(&mut space, bytes, 0);
-    if 3 <= n {
-        put(rt, first(&space, n - 3));
+    fn from(number: u8) -> Mode {
+        match number {
+            0 => Mode::Above,
+            1 => Mode::From,
+            _ => Mode::Short,
+        }
     }
 }
 
-// The next n bytes of the input, at the start of buf; false where there are not so many.
-fn next(input: &mut impl io::Read, buf: &mut [u8], n: usize) -> bool
-    ensures { result ≡ true → n ≤ length buf.old }
-{
-    if buf.len() < n {
-        return false;
-    }
-    input.read_exact(&mut buf[0..n]).is_ok()
+/// The requests of an input, up to its end.
+#[derive(Drop)]
+pub struct Requests<R> {
+    pub input: R,
+    pub alloc: Global,
+    pub has_changes: bool,
+    pub left: u64,
 }
 
-// The number in the next bytes of the input, at most four.
-fn number(input: &mut impl io::Read, width: usize) -> Read {
-    let mut bytes = [0u8; 4];
-    if !next(input, &mut bytes, width) {
-        return Read::End;
+impl<R: Read + Drop> Requests<R> {
+    /// The requests of an input, without changes.
+    pub fn new(alloc: Global, input: R) -> Requests<R>
+        ensures input { result.input ≡ input }
+        ensures plain { result.has_changes ≡ false }
+    {
+        Requests {
+            input,
+            alloc,
+            has_changes: false,
+            left: u64::MAX,
+        }
     }
-    Read::Number(le::u32_at(&bytes, 0) as usize)
+
+    /// The same, with changes behind each.
+    pub fn with_changes(self) -> Requests<R>
+        ensures input { result.input ≡ self.input }
+        ensures changed { result.has_changes ≡ true }
+    {
+        Requests {
+            has_changes: true,
+            ..self
+        }
+    }
+
+    // The number in the next bytes of the input, at most four.
+    fn number(&mut self, width: usize) -> io::Result<usize> {
+        let mut bytes = [0u8; 4];
+        self.input.read_exact(&mut bytes[..width.min(4)])?;
+        Ok(u32::from_le_bytes(bytes) as usize)
+    }
+
+    // A length of so many bytes, and as many bytes as it says, which are no more than the limit.
+    fn field(&mut self, width: usize, limit: usize) -> io::Result<Vec<u8>>
+        ensures { IfOk result (λ bytes. Within limit bytes.items) }
+    {
+        let n = self.number(width)?;
+        if limit < n {
+            return Err(ErrorKind::InvalidData.into());
+        }
+        let mut bytes = vec![in self.alloc; 0; n]?;
+        self.input.read_exact(&mut bytes)?;
+        Ok(bytes)
+    }
+
+    fn read(&mut self) -> io::Result<Request>
+        ensures { IfOk result Fits }
+    {
+        let name = self.field(1, 256)?;
+        let mut how = [0u8; 3];
+        self.input.read_exact(&mut how)?;
+        let cursor = self.field(2, 512)?;
+        let bound = self.field(2, 512)?;
+        let image = self.field(4, 65536)?;
+        let changes = if self.has_changes {
+            self.field(2, 512)?
+        } else {
+            Vec::new(self.alloc)
+        };
+        let [form, mode, kind] = how;
+        Ok(Request {
+            name: String::from_utf8(name).map_err(|_| ErrorKind::InvalidData)?,
+            form,
+            mode: Mode::from(mode),
+            kind,
+            cursor,
+            bound,
+            image,
+            changes,
+        })
+    }
 }
 
-// A length of so many bytes, and as many bytes as it says, at the start of buf; the length.
-pub fn field(input: &mut impl io::Read, buf: &mut [u8], width: usize) -> Read
-    ensures { Within result (length buf.old) }
-{
-    let Read::Number(n) = number(input, width) else {
-        return Read::End;
-    };
-    if !next(input, buf, n) {
-        return Read::End;
-    }
-    Read::Number(n)
-}
+impl<R: Read + Drop> Iterator for Requests<R> {
+    type Item = io::Result<Request>;
 
-// No request.
-fn none() -> Request
-    ensures { Fits result 0 }
-{
-    let name = [0u8; 256];
-    let key = [0u8; 512];
-    Request {
-        more: false,
-        name: name,
-        name_len: 0,
-        form: 0,
-        mode: 0,
-        kind: 0,
-        cursor: key,
-        cursor_len: 0,
-        bound: key,
-        bound_len: 0,
-        image_len: 0,
+    ghost next_gives = { λ s r t. IfSome r (λ read. IfOk read Fits) };
+
+    ghost remaining = { λ s. at_most s.left };
+
+    fn next(&mut self) -> Option<io::Result<Request>> {
+        let left = self.left.checked_sub(1)?;
+        let read = self.read();
+        self.left = left;
+        match read {
+            Err(e) if e.kind() == ErrorKind::OutOfMemory => Some(Err(e)),
+            read => read.ok().map(Ok),
+        }
     }
 }
 
-// The next request of the input, its image at the start of `image`.
-pub fn read_request(input: &mut impl io::Read, image: &mut [u8]) -> Request
-    ensures { Fits result (length image.old) }
-{
-    let mut name = [0u8; 256];
-    let mut how = [0u8; 3];
-    let mut cursor = [0u8; 512];
-    let mut bound = [0u8; 512];
-    let Read::Number(n) = field(input, &mut name, 1) else {
-        return none();
-    };
-    if !next(input, &mut how, 3) {
-        return none();
-    }
-    let Read::Number(c) = field(input, &mut cursor, 2) else {
-        return none();
-    };
-    let Read::Number(b) = field(input, &mut bound, 2) else {
-        return none();
-    };
-    let Read::Number(i) = field(input, image, 4) else {
-        return none();
-    };
-    Request {
-        more: true,
-        name: name,
-        name_len: n,
-        form: how[0],
-        mode: how[1],
-        kind: how[2],
-        cursor: cursor,
-        cursor_len: c,
-        bound: bound,
-        bound_len: b,
-        image_len: i,
+/// A key in hex, `-` for none, as a sheet's line has it: cut from such a line, so that a key is written in hex in one place alone.
+#[derive(Drop)]
+pub struct KeyText<'a>(pub &'a [u8]);
+
+impl fmt::Display for KeyText<'_> {
+    fn fmt<W: fmt::Write>(&self, f: &mut fmt::Formatter<W>) -> fmt::Result {
+        let mut line = [0u8; LINE];
+        let n = sheet::pair_line(&mut line, self.0, 0);
+        // The line ends in a space, a digit and a newline.
+        if 3 <= n {
+            for byte in key::first(&line, n - 3) {
+                f.write_char(char::from(*byte))?;
+            }
+        }
+        Ok(())
     }
 }

@@ -1,9 +1,9 @@
 -- The moves along a leaf: each is a move of the machine that hands out a key, so that what is left to do stays what it was.
-use Rattle.std.specs.Prelude.{◌≡◌, ◌+◌, ◌-◌, ◌≤◌, ◌<◌}
-use Rattle.base.specs.Kit.{refl, sym, ◌∙◌, ap, Bool, true, false, false≢true, List, ℕ, arith, length}
+use Rattle.std.specs.Prelude.{◌≡◌, ◌+◌, ◌-◌, ◌≤◌, ◌<◌, None, Ok, Err, Some}
+use Rattle.base.specs.Kit.{refl, sym, ◌∙◌, ap, Bool, true, false, List, ℕ, arith, length}
 use Rattle.base.specs.Pick.{pick}
 use Rattle.base.proofs.Choice.{pick-on, pick_off}
-use Rattle.scan.specs.Types.{Slot, CursorPlace, ScanCtx, At, Out, Nothing, NextKeyPast as PastBound, LayerContext, Slow, Bound, LeafEndFault as Gone, Spent}
+use Rattle.scan.specs.Types.{Slot, CursorPlace, ScanCtx, Out, NextKeyPast as PastBound, LayerContext, Slow, Bound, Unreadable, MovesSpent}
 use Rattle.cursor.specs.CursorKey.{with_ikey, with_length}
 use Rattle.search.specs.Traversal.{leaf_there}
 use Rattle.moves.specs.Moves.{onward, key_place, key_buf}
@@ -35,8 +35,8 @@ module _ (image : List ℕ) (kind : ℕ) (bound buf₀ : List ℕ) (c₀ : ScanC
     room = omega (arith, g.in_range_lem.place, g.in_range_lem.deep)
 
     -- no move is left
-    pub spent : length image ≤ moves → AlongFrom image kind bound buf₀ c₀ keys₀ moves₀ (along_with Spent c keys moves) buf
-    unfolding run_by pick
+    pub spent : length image ≤ moves → AlongFrom image kind bound buf₀ c₀ keys₀ moves₀ (along_with (Err MovesSpent) c keys moves) buf
+    unfolding run_by
     spent l = record {
       same = λ stack. let z : length image - moves ≡ 0 = omega arith in rw z at (g.same stack);
       after = g.after;
@@ -45,12 +45,12 @@ module _ (image : List ℕ) (kind : ℕ) (bound buf₀ : List ℕ) (c₀ : ScanC
       few = g.few;
       grows = g.grows;
       within = g.within;
-      tested = λ e. absurd (false≢true e);
+      tested = λ e. absurd cc;
     }
 
     module _ (more : moves < length image) where
       -- its leaf is not there
-      pub gone : leaf_there image c.leaf ≡ false → AlongFrom image kind bound buf₀ c₀ keys₀ moves₀ (along_with Gone c keys (moves + 1)) buf
+      pub gone : leaf_there image c.leaf ≡ false → AlongFrom image kind bound buf₀ c₀ keys₀ moves₀ (along_with (Err Unreadable) c keys (moves + 1)) buf
       unfolding after_by counted pick
       gone e = record {
         same = λ stack. sym (turn image kind bound true moves keys (scan c buf stack) _ _ more (leaf_gone image kind bound buf stack c g.after e)) ∙ g.same stack;
@@ -60,12 +60,12 @@ module _ (image : List ℕ) (kind : ℕ) (bound buf₀ : List ℕ) (c₀ : ScanC
         few = omega (arith, g.few);
         grows = omega (arith, g.grows);
         within = omega arith;
-        tested = λ e. absurd (false≢true e);
+        tested = λ e. absurd cc;
       }
 
       module _ (there : leaf_there image c.leaf ≡ true) where
         -- the next move is not the fast path's
-        pub slow : AlongFrom image kind bound buf₀ c₀ keys₀ moves₀ (along_with Slow c keys moves) buf
+        pub slow : AlongFrom image kind bound buf₀ c₀ keys₀ moves₀ (along_with (Ok Slow) c keys moves) buf
         unfolding pick
         slow = record {
           same = g.same;
@@ -79,7 +79,7 @@ module _ (image : List ℕ) (kind : ℕ) (bound buf₀ : List ℕ) (c₀ : ScanC
         }
 
         -- it is: k and b are cursor and buffer with the key
-        module _ (slot : Slot) (e : fast_slot image c.leaf c.position c.cursor ≡ At slot) (k : CursorPlace)
+        module _ (slot : Slot) (e : fast_slot image c.leaf c.position c.cursor ≡ Some slot) (k : CursorPlace)
             (b : List ℕ) (eb : b ≡ key_buf image c.leaf slot c.cursor.offset buf) where
           facts : Fast image c.leaf c.position c.cursor slot
           facts = fast_facts image c.leaf c.position c.cursor slot e
@@ -104,8 +104,8 @@ module _ (image : List ℕ) (kind : ℕ) (bound buf₀ : List ℕ) (c₀ : ScanC
 
           -- the bound ends them with this key, and n keys are out
           ends : (n : ℕ) → n ≤ moves + 1 → k ≡ key_place image c.leaf slot c.cursor
-              → ((stack : List LayerContext) → came_to Nothing false n (moves + 1) (scan (onward c k k.ikey) b stack) ≡ ahead image kind bound keys₀ moves₀ (scan c₀ buf₀ stack))
-              → AlongFrom image kind bound buf₀ c₀ keys₀ moves₀ (along_with Bound (onward c k k.ikey) n (moves + 1)) b
+              → ((stack : List LayerContext) → came_to (Ok None) false n (moves + 1) (scan (onward c k k.ikey) b stack) ≡ ahead image kind bound keys₀ moves₀ (scan c₀ buf₀ stack))
+              → AlongFrom image kind bound buf₀ c₀ keys₀ moves₀ (along_with (Ok Bound) (onward c k k.ikey) n (moves + 1)) b
           unfolding onward pick
           ends n l ek s = record {
             same = s;
@@ -115,13 +115,13 @@ module _ (image : List ℕ) (kind : ℕ) (bound buf₀ : List ℕ) (c₀ : ScanC
             few = l;
             grows = omega (arith, g.grows);
             within = omega arith;
-            tested = λ e. absurd (false≢true e);
+            tested = λ e. absurd cc;
           }
 
           -- the key is out; where it is the last, the count is at its end
           module _ (value : ℕ) (last : Bool) (f : Out k value last ≡ next_key image kind bound buf c.leaf slot c.cursor) where
             comes : (stack : List LayerContext)
-                → pick (goes_on true last) (ahead image kind bound (keys + 1) (moves + 1) (scan (onward c k k.ikey) b stack)) (came_to Nothing false (keys + 1) (moves + 1) (scan (onward c k k.ikey) b stack))
+                → pick (goes_on true last) (ahead image kind bound (keys + 1) (moves + 1) (scan (onward c k k.ikey) b stack)) (came_to (Ok None) false (keys + 1) (moves + 1) (scan (onward c k k.ikey) b stack))
                 ≡ ahead image kind bound keys₀ moves₀ (scan c₀ buf₀ stack)
             unfolding onward after_by counted pick
             comes stack = rw eb (sym (turn image kind bound true moves keys (scan c buf stack) _ _ more (moves_out image kind bound buf stack c g.after there slot e k value last f)) ∙ g.same stack)
@@ -138,14 +138,14 @@ module _ (image : List ℕ) (kind : ℕ) (bound buf₀ : List ℕ) (c₀ : ScanC
               within = omega arith;
             }
 
-            pub last_out : last ≡ true → AlongFrom image kind bound buf₀ c₀ keys₀ moves₀ (along_with Bound (onward c k k.ikey) (keys + 1) (moves + 1)) b
+            pub last_out : last ≡ true → AlongFrom image kind bound buf₀ c₀ keys₀ moves₀ (along_with (Ok Bound) (onward c k k.ikey) (keys + 1) (moves + 1)) b
             last_out t =
                 ends (keys + 1) (omega (arith, g.few)) (next_place image kind bound buf c.leaf slot c.cursor _ f)
                 (λ stack. pick_off _ (goes_on true last) refl _ _ _ (ap (goes_on true) t) refl ∙ comes stack)
 
           -- it is past the bound
           pub past : PastBound k ≡ next_key image kind bound buf c.leaf slot c.cursor
-              → AlongFrom image kind bound buf₀ c₀ keys₀ moves₀ (along_with Bound (onward c k k.ikey) keys (moves + 1)) b
+              → AlongFrom image kind bound buf₀ c₀ keys₀ moves₀ (along_with (Ok Bound) (onward c k k.ikey) keys (moves + 1)) b
           unfolding onward after_by counted
           past f =
               ends keys (omega (arith, g.few)) (next_place image kind bound buf c.leaf slot c.cursor _ f)

@@ -1,12 +1,12 @@
 -- THE THEOREM `ended-at_end` (02 [12]: "A walk that hands out the key exactly at its end is ended there; the next call answers none with zero
 -- moves", "over any image"): over any bytes, and of any walk whose buffer and stack have their lengths. A walk whose count was the image's
 -- length has a count above it then, which 02 [13] declines with 21 before all else.
-use Rattle.std.specs.Prelude.{◌≡◌, ◌<◌}
+use Rattle.std.specs.Prelude.{◌≡◌, ◌<◌, Some, None, Ok, Err}
 use Rattle.base.specs.Kit.{ap, sym, ◌∙◌, Bool, true, not, List, ℕ, arith, length, take, not-false}
 use Rattle.base.proofs.Choice.{pick_ind}
 use Rattle.walk.specs.Walk.{walk_ok, keys_of, len_of}
 use Rattle.walk.proofs.NumberLaws.{walk-fits, fits-walk}
-use Rattle.scan.specs.Types.{Walk, Answer, Key, Nothing, Declined, Stepped}
+use Rattle.scan.specs.Types.{Walk, Answer, Stepped}
 use Rattle.scan.specs.Machine.{Scan, run, is_ended, scan_of, after_key, answered, stepped, finished, advance, step}
 use Rattle.scan.specs.Ends.{ends_with}
 use Rattle.scan.proofs.BeginLaws.{starts_between, step_ended}
@@ -23,7 +23,7 @@ module _ (w : Walk) (image : List ℕ) (buf-is : length w.cursor.buf ≡ 256) (s
   module _ (ok : walk_ok w (length image) ≡ true) where
     after_run : (answer : Answer) (last : Bool) (moves : ℕ) (s : Scan) → OutBy image w.bound.kind bytes answer last s → After (stepped w answer last moves s)
     unfolding keys_of len_of
-    after_run (Key len value) last moves s h e =
+    after_run (Ok (Some k)) last moves s h e =
         let o = walk-fits w (length image) ok in
         let r = h.in_range_lem in (
           ap after_key h.last-is,
@@ -40,8 +40,8 @@ module _ (w : Walk) (image : List ℕ) (buf-is : length w.cursor.buf ≡ 256) (s
                 count_fits = omega arith;
               }),
         )
-    after_run Nothing last moves s h e = absurd (omega arith)
-    after_run (Declined n) last moves s h e = absurd (omega arith)
+    after_run (Ok None) last moves s h e = absurd (omega arith)
+    after_run (Err d) last moves s h e = absurd (omega arith)
 
     after-advance : After (advance w image)
     unfolding advance finished scan_of
@@ -58,7 +58,7 @@ module _ (w : Walk) (image : List ℕ) (buf-is : length w.cursor.buf ≡ 256) (s
 
   pub ended-at_end : keys_of (step w image).answer ≡ 1
       → ((step w image).walk.state ≡ after_key (ends_with w (step w image)))
-      × (ends_with w (step w image) ≡ true → w.handed.count < length image → step (step w image).walk image ≡ answered Nothing 0 (step w image).walk)
+      × (ends_with w (step w image) ≡ true → w.handed.count < length image → step (step w image).walk image ≡ answered (Ok None) 0 (step w image).walk)
   ended-at_end e =
       let a = after-step e in
       (a.0, λ t room. sym (step_ended (step w image).walk image (a.1 room) (ap is_ended (a.0 ∙ ap after_key t))))

@@ -1,9 +1,9 @@
 -- Where a step begins: a walk that passes the test of its numbers has them in range before its first move; and what a step comes to by
 -- that test and by the walk's state.
-use Rattle.std.specs.Prelude.{◌≡◌}
+use Rattle.std.specs.Prelude.{◌≡◌, None, Ok}
 use Rattle.base.specs.Kit.{true, false, List, ℕ, length}
 use Rattle.base.specs.Pick.{pick}
-use Rattle.scan.specs.Types.{ScanCtx, Walk, Nothing, StartMode, WalkState, WalkStateStart as Start, WalkStateRetry as Retry, WalkStateFindNext as FindNext, Ended}
+use Rattle.scan.specs.Types.{ScanCtx, Walk, WalkRange, StartMode, WalkState, WalkStateStart as Start, WalkStateRetry as Retry, WalkStateFindNext as FindNext, Ended}
 use Rattle.moves.specs.CodeMoves.{InRange}
 use Rattle.moves.proofs.Laws.{Between}
 use Rattle.walk.specs.Walk.{walk_ok}
@@ -27,12 +27,12 @@ starts_between w n e = start_between w.mode w.state _ (in_range_lem w n e)
 
 -- A STEP, by the two tests that stand before its moves.
 module _ (w : Walk) (image : List ℕ) where
-  pub step_declined : walk_ok w (length image) ≡ false → declined_with 21 w ≡ step w image
+  pub step_declined : walk_ok w (length image) ≡ false → declined_with WalkRange w ≡ step w image
   unfolding step pick
   step_declined e = rw e
 
   module _ (e : walk_ok w (length image) ≡ true) where
-    pub step_ended : is_ended w.state ≡ true → answered Nothing 0 w ≡ step w image
+    pub step_ended : is_ended w.state ≡ true → answered (Ok None) 0 w ≡ step w image
     unfolding step pick
     step_ended f = rw (e, f)
 

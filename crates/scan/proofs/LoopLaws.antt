@@ -1,17 +1,17 @@
 -- One turn of the loop: what it holds before it, what it has made of that when it comes to its pass, and what each outcome of
 -- the pass comes to. The moves that are left always come to what all of them come to.
-use Rattle.std.specs.Prelude.{◌≡◌, ◌+◌, ◌-◌, ◌^◌, ◌≤◌, ◌<◌}
+use Rattle.std.specs.Prelude.{◌≡◌, ◌+◌, ◌-◌, ◌^◌, ◌≤◌, ◌<◌, None, Ok, Err}
 use Rattle.base.specs.Kit.{refl, sym, ◌∙◌, ap, subst, Bool, true, false, false≢true, true≢false, and-eq-true_iff, List, ℕ, arith, sub-zero, not-true, eqb-true, length}
 use Rattle.base.proofs.Choice.{pick-on, pick_off}
 use Rattle.key.specs.Part.{part}
 use Rattle.search.specs.Traversal.{leaf_there}
 use Rattle.moves.specs.Moves.{pass_in}
 use Rattle.moves.specs.CodeMoves.{InRange}
-use Rattle.scan.specs.Types.{ScanState, ScanStateStart as Start, ScanStateRetry as Retry, ScanStateFindNext as FindNext, Down, Up, ScanCtx, Outcome, Continue, Push, Emit, Exhausted, OutcomeFault as Fault, Pass, LayerContext, Walk, Answer, Nothing, Declined, Along, Advanced}
+use Rattle.scan.specs.Types.{ScanState, ScanStateStart as Start, ScanStateRetry as Retry, ScanStateFindNext as FindNext, Down, Up, ScanCtx, Outcome, Continue, Push, Emit, Exhausted, Pass, LayerContext, Walk, Answer, Decline, MovesSpent, LeafEnd, Slow, Bound, Along, Advanced}
 use Rattle.moves.proofs.Laws.{Between, Before, After, not_up, popped_in_range, entered_in_range, pass_in_range, buffer_in_range}
 use Rattle.walk.specs.Walk.{walk_ok}
-use Rattle.scan.specs.Machine.{Scan, is_up, pushing, moved_by, entered, stacked, popped, unstacked, move, scan_state, scan_of}
-use Rattle.scan.specs.CodeLoop.{counted, Run, came_to, goes_on, emitted_by, after_by, run_by, all_by, advance_by, advanced_of, is_next, is_along, AfterKey, is_slow, left_answer, AlongFrom}
+use Rattle.scan.specs.Machine.{Scan, is_up, pushing, passed_by, moved_by, entered, stacked, popped, unstacked, move, scan_state, scan_of, finished}
+use Rattle.scan.specs.CodeLoop.{counted, Run, came_to, goes_on, emitted_by, after_by, run_by, all_by, advance_by, advanced_of, is_next, is_along, AfterKey, ahead, AlongFrom}
 use Rattle.walk.specs.declared.scan_state.WalkState.TheVariants as walk
 use Rattle.walk.proofs.NumberLaws.{walk-fits}
 use Rattle.scan.proofs.BeginLaws.{starts_between}
@@ -36,10 +36,10 @@ next_state Up e = absurd (false≢true e)
 pub along_so : (c : ScanCtx) (whole : Bool) → is_along c whole ≡ true → (whole ≡ true) × AfterKey c
 unfolding is_along
 along_so c whole e =
-    let w = (and-eq-true_iff _ _).0 e in
-    let n = (and-eq-true_iff _ _).0 w.1 in
-    let d = (and-eq-true_iff _ _).0 n.1 in
-    (w.0, record { next = next_state c.state n.0; not-due = not-true c.dup d.0; last-is = eqb-true _ _ d.1 })
+    let l = (and-eq-true_iff _ _).0 e in
+    let d = (and-eq-true_iff _ _).0 l.0 in
+    let n = (and-eq-true_iff _ _).0 d.0 in
+    (n.0, record { next = next_state c.state n.1; not-due = not-true c.dup d.1; last-is = eqb-true _ _ l.1 })
 
 module _ (whole : Bool) (w : Walk) (image : List ℕ) (kind : ℕ) (bound : List ℕ) where
   -- the moves that are left, n of them
@@ -59,7 +59,7 @@ module _ (whole : Bool) (w : Walk) (image : List ℕ) (kind : ℕ) (bound : List
 
   -- It has come to its pass, with c and stack: the move from s is that pass, and the pass's numbers are in range.
   pub record Ready (s : Scan) (tested : Bool) (c : ScanCtx) (stack : List LayerContext) : Type 0 where
-    pub is : move image kind bound s ≡ moved_by stack (pass_in c.state image kind bound s.buf c)
+    pub is : move image kind bound s ≡ moved_by (record { ctx = c; buf = s.buf; stack = stack }) (pass_in c.state image kind bound s.buf c)
     pub fits : Before c.state c
     pub there : tested ≡ true → leaf_there image c.leaf ≡ true
 
@@ -118,10 +118,11 @@ module _ (whole : Bool) (w : Walk) (image : List ℕ) (kind : ℕ) (bound : List
       all_so t u = ap (λ (x : Bool). run_by x image kind bound (length image - moves) keys moves s) (sym u) ∙ h.same
 
       -- the loop goes on with a move that has tested its leaf
-      pub along-on : is_slow a.end ≡ true
+      pub along-on : (k : LeafEnd) → a.end ≡ Ok k → k ≡ Slow
           → (b' : List ℕ) (c' : ScanCtx) (moves' keys' : ℕ) (tested' : Bool) → b' ≡ b → c' ≡ a.ctx → moves' ≡ a.moves → keys' ≡ a.keys → tested' ≡ true
           → Turning s.stack moves c' b' moves' keys' tested'
-      along-on g b' c' moves' keys' tested' eb ec em ek et =
+      along-on k u v b' c' moves' keys' tested' eb ec em ek et =
+          let g : a.end ≡ Ok Slow = rw v at u in
           rw (eb, ec, em, ek, et) (record {
             held = record {
               within = f.within;
@@ -129,7 +130,7 @@ module _ (whole : Bool) (w : Walk) (image : List ℕ) (kind : ℕ) (bound : List
               room = h.room;
               same =
                   ap (λ (t : Bool). run_by t image kind bound (length image - a.moves) a.keys a.moves (record { ctx = a.ctx; buf = b; stack = s.stack })) (along_so s.ctx whole e).0
-                  ∙ pick-on _ (is_slow a.end) refl _ _ _ g refl ∙ f.same s.stack ∙ all_so true (along_so s.ctx whole e).0;
+                  ∙ rw g at (f.same s.stack) ∙ all_so true (along_so s.ctx whole e).0;
               fits = subst (λ (x : ScanState). Between x a.ctx) (sym f.after.next) f.in_range_lem;
               long = f.long;
               deep = f.in_range_lem.deep;
@@ -139,16 +140,22 @@ module _ (whole : Bool) (w : Walk) (image : List ℕ) (kind : ℕ) (bound : List
             grows = f.grows;
           })
 
-      -- the loop ends
-      pub along_ends : is_slow a.end ≡ false → (answer : Answer) → answer ≡ left_answer a.end
-          → (r : Advanced) → r ≡ advanced_of w (came_to answer false a.keys a.moves (record { ctx = a.ctx; buf = b; stack = s.stack }))
-          → r ≡ advance_by whole w image
-      along_ends g answer u r v =
-          v ∙ rw u (comes _ (pick_off _ (is_slow a.end) refl _ _ _ g refl ∙ f.same s.stack ∙ all_so true (along_so s.ctx whole e).0))
+      -- the loop ends with an answer
+      along_ends : (answer : Answer) (r : Advanced) → r ≡ advanced_of w (came_to answer false a.keys a.moves (record { ctx = a.ctx; buf = b; stack = s.stack }))
+          → came_to answer false a.keys a.moves (record { ctx = a.ctx; buf = b; stack = s.stack }) ≡ ahead image kind bound keys moves s → r ≡ advance_by whole w image
+      along_ends answer r v same = v ∙ comes _ (same ∙ all_so true (along_so s.ctx whole e).0)
+
+      pub along_bound : (k : LeafEnd) → a.end ≡ Ok k → k ≡ Bound → (r : Advanced)
+          → r ≡ advanced_of w (came_to (Ok None) false a.keys a.moves (record { ctx = a.ctx; buf = b; stack = s.stack })) → r ≡ advance_by whole w image
+      along_bound k g e r v = along_ends (Ok None) r v (rw (g, e) at (f.same s.stack))
+
+      pub along_declined : (d : Decline) → a.end ≡ Err d → (r : Advanced)
+          → r ≡ advanced_of w (came_to (Err d) false a.keys a.moves (record { ctx = a.ctx; buf = b; stack = s.stack })) → r ≡ advance_by whole w image
+      along_declined d g r v = along_ends (Err d) r v (rw g at (f.same s.stack))
 
   module _ (s : Scan) (moves keys : ℕ) (tested : Bool) (h : Held s moves keys tested) where
     -- no move is left
-    pub none : length image ≤ moves → (r : Advanced) → r ≡ advanced_of w (came_to (Declined 23) false keys moves s)
+    pub none : length image ≤ moves → (r : Advanced) → r ≡ advanced_of w (came_to (Err MovesSpent) false keys moves s)
         → r ≡ advance_by whole w image
     unfolding run_by
     none l r e = let z : length image - moves ≡ 0 = omega arith in e ∙ comes _ (rw z at h.same)
@@ -156,7 +163,7 @@ module _ (whole : Bool) (w : Walk) (image : List ℕ) (kind : ℕ) (bound : List
     module _ (more : moves < length image) where
       -- Up from the first layer
       pub ends : is_up s.ctx.state ≡ true → s.ctx.depth ≡ 0
-          → (r : Advanced) → r ≡ advanced_of w (came_to Nothing false keys (moves + 1) s) → r ≡ advance_by whole w image
+          → (r : Advanced) → r ≡ advanced_of w (came_to (Ok None) false keys (moves + 1) s) → r ≡ advance_by whole w image
       unfolding after_by counted
       ends u d r f = f ∙ comes _ (sym (turn image kind bound whole moves keys s _ _ more (end_is image kind bound s u d)) ∙ h.same)
 
@@ -173,9 +180,16 @@ module _ (whole : Bool) (w : Walk) (image : List ℕ) (kind : ℕ) (bound : List
           let r : InRange s.ctx.depth s.ctx = subst (λ (x : ScanState). Between x s.ctx) up h.fits in
           rw (e, f) (record { is = up_is image kind bound s u d; fits = rw up (popped_in_range s.ctx _ refl refl r (omega arith) refl); there = λ t. absurd (true≢false (sym u ∙ ap is_up (h.known t).0)) })
 
+      -- the pass is declined; what the loop holds then is not told
+      pub declines : Ready s tested c stack → moves < length image → (d : Decline) → Err d ≡ (pass_in c.state image kind bound s.buf c).pass
+          → (t : Scan) (r : Advanced) → r ≡ advanced_of w (came_to (Err d) false keys (moves + 1) t) → r ≡ advance_by whole w image
+      unfolding passed_by after_by counted finished
+      declines r more d e t a f =
+          f ∙ comes _ (sym (turn image kind bound whole moves keys s (Err d) (record { ctx = c; buf = s.buf; stack = stack }) more (r.is ∙ rw (← e))) ∙ h.same)
+
       module _ (r : Ready s tested c stack) (more : moves < length image) (p : Pass) (b : List ℕ) where
-        pub made : p ≡ (pass_in c.state image kind bound s.buf c).pass → b ≡ (pass_in c.state image kind bound s.buf c).buf → Made p b stack moves keys
-        unfolding moved_by
+        pub made : Ok p ≡ (pass_in c.state image kind bound s.buf c).pass → b ≡ (pass_in c.state image kind bound s.buf c).buf → Made p b stack moves keys
+        unfolding passed_by
         made e f = record {
           within = omega arith;
           few = h.few;
@@ -239,12 +253,7 @@ module _ (whole : Bool) (w : Walk) (image : List ℕ) (kind : ℕ) (bound : List
     unfolding pushing after_by counted
     emits value last e t r g = g ∙ comes _ (pick_off _ (goes_on whole last) refl _ _ _ t refl ∙ m.same (Emit value last) e)
 
-    -- the loop ends without a key, with the answer a
-    module _ (a : Answer) (r : Advanced) (k : ℕ) (g : r ≡ advanced_of w (came_to a false k (moves + 1) (record { ctx = p.ctx; buf = b; stack = stack }))) where
-      pub exhausts : p.outcome ≡ Exhausted → a ≡ Nothing → k ≡ keys → r ≡ advance_by whole w image
-      unfolding pushing after_by counted
-      exhausts e u v = g ∙ rw (u, v) (comes _ (m.same Exhausted e))
-
-      pub faults : p.outcome ≡ Fault → a ≡ Declined 22 → k ≡ keys → r ≡ advance_by whole w image
-      unfolding pushing after_by counted
-      faults e u v = g ∙ rw (u, v) (comes _ (m.same Fault e))
+    -- the walk is at its end
+    pub exhausts : p.outcome ≡ Exhausted → (r : Advanced) → r ≡ advanced_of w (came_to (Ok None) false keys (moves + 1) (record { ctx = p.ctx; buf = b; stack = stack })) → r ≡ advance_by whole w image
+    unfolding pushing after_by counted
+    exhausts e r g = g ∙ comes _ (m.same Exhausted e)

@@ -1,9 +1,9 @@
 -- The loop's run, which counts as it goes: to the next key it is the machine's run, by induction on the moves that are left.
-use Rattle.std.specs.Prelude.{◌≡◌, ◌&&◌, ◌+◌, ◌-◌, ◌<◌}
+use Rattle.std.specs.Prelude.{◌≡◌, ◌&&◌, ◌+◌, ◌-◌, ◌<◌, Result, Ok, Err}
 use Rattle.base.specs.Kit.{refl, ap, Bool, true, false, List, ℕ, zero, suc, length}
 use Rattle.base.specs.Pick.{pick}
 use Rattle.base.proofs.Count.{left-more}
-use Rattle.scan.specs.Types.{Outcome, Continue, Push, Emit, Exhausted, OutcomeFault as Fault, Walk}
+use Rattle.scan.specs.Types.{Outcome, Continue, Push, Emit, Exhausted, Decline, Walk}
 use Rattle.walk.specs.Walk.{walk_ok}
 use Rattle.scan.specs.Machine.{Scan, move, after, run, is_ended, finished, advance}
 use Rattle.scan.specs.CodeLoop.{counted, after_by, run_by, all_by, advance_by, keys_ahead, keys_left}
@@ -12,15 +12,15 @@ module _ (image : List ℕ) (kind : ℕ) (bound : List ℕ) where
   abbrev ToKey : ℕ → Type 0
   ToKey n = (keys moves : ℕ) (s : Scan) → (run_by false image kind bound n keys moves s).ran ≡ run image kind bound n moves s
 
-  key-after : (n : ℕ) → ToKey n → (keys moves : ℕ) (next : Scan) (o : Outcome)
+  key-after : (n : ℕ) → ToKey n → (keys moves : ℕ) (next : Scan) (o : Result Outcome Decline)
       → (after_by false o (counted o keys) moves next (run_by false image kind bound n (counted o keys) moves next)).ran
       ≡ after o moves next (run image kind bound n moves next)
   unfolding after_by counted after pick
-  key-after n h keys moves next Continue = h keys moves next
-  key-after n h keys moves next (Push root) = h keys moves next
-  key-after n h keys moves next (Emit value last) = refl
-  key-after n h keys moves next Exhausted = refl
-  key-after n h keys moves next Fault = refl
+  key-after n h keys moves next (Ok Continue) = h keys moves next
+  key-after n h keys moves next (Ok (Push root)) = h keys moves next
+  key-after n h keys moves next (Ok (Emit value last)) = refl
+  key-after n h keys moves next (Ok Exhausted) = refl
+  key-after n h keys moves next (Err d) = refl
 
   to-key : (n : ℕ) → ToKey n
   unfolding run_by run
@@ -28,7 +28,7 @@ module _ (image : List ℕ) (kind : ℕ) (bound : List ℕ) where
   to-key (suc n) keys moves s = key-after n (to-key n) keys (moves + 1) (move image kind bound s).scan (move image kind bound s).outcome
 
   -- ONE MOVE of a run that has moves left, which comes to o with the scan t
-  pub turn : (whole : Bool) (moves keys : ℕ) (s : Scan) (o : Outcome) (t : Scan) → moves < length image
+  pub turn : (whole : Bool) (moves keys : ℕ) (s : Scan) (o : Result Outcome Decline) (t : Scan) → moves < length image
       → move image kind bound s ≡ record { outcome = o; scan = t }
       → run_by whole image kind bound (length image - moves) keys moves s
       ≡ after_by whole o (counted o keys) (moves + 1) t (run_by whole image kind bound (length image - (moves + 1)) (counted o keys) (moves + 1) t)

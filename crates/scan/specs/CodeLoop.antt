@@ -1,13 +1,13 @@
 -- The loop as its functions have it: the run that counts as it goes, and the moves along a leaf. specs/Machine.antt says what a step
 -- comes to; proofs/RunLaws.antt has that this run is the machine's.
-use Rattle.std.specs.Prelude.{◌&&◌, ◌≡◌, ◌+◌, ◌-◌, ◌≤◌, ◌<◌}
+use Rattle.std.specs.Prelude.{◌&&◌, ◌≡◌, ◌+◌, ◌-◌, ◌≤◌, ◌<◌, None, Result, Ok, Err}
 use Rattle.base.specs.Kit.{Bool, true, false, not, List, ℕ, zero, suc, eqb, length, take}
 use Rattle.base.specs.Pick.{pick}
 use Rattle.search.specs.Traversal.{leaf_there}
 use Rattle.moves.specs.CodeMoves.{InRange}
-use Rattle.scan.specs.Types.{ScanState, ScanStateStart as Start, ScanStateRetry as Retry, ScanStateFindNext as FindNext, Down, Up, ScanCtx, Outcome, Continue, Push, Emit, Exhausted, OutcomeFault as Fault, LayerContext, WalkStateFindNext as Next, Walk, Answer, Key, Nothing, Declined, LeafEnd, Slow, Bound, LeafEndFault as Gone, Spent, Along, Advanced}
+use Rattle.scan.specs.Types.{ScanState, ScanStateStart as Start, ScanStateRetry as Retry, ScanStateFindNext as FindNext, Down, Up, ScanCtx, Outcome, Continue, Push, Emit, Exhausted, LayerContext, WalkStateFindNext as Next, Walk, Answer, Decline, Unreadable, MovesSpent, LeafEnd, Slow, Bound, Along, Advanced}
 use Rattle.walk.specs.Walk.{walk_ok}
-use Rattle.scan.specs.Machine.{Scan, move, Ran, is_ended, scan_of, finished}
+use Rattle.scan.specs.Machine.{Scan, move, Ran, is_ended, scan_of, key_out, finished}
 
 -- What the loop asks of its walk: its numbers are in range; and where `tested` tells that the first move has tested its leaf's version, that
 -- move is a FindNext, and the leaf is there.
@@ -16,12 +16,12 @@ Begun w image tested = (walk_ok w (length image) ≡ true) × (tested ≡ true �
 
 -- THE LOOP ITSELF, which goes to the next key (a step), or past every key (`whole`: a count). How many keys are out after a move, n
 -- before it.
-unfoldable pub counted : Outcome → ℕ → ℕ
-counted Continue n = n
-counted (Push root) n = n
-counted (Emit value last) n = n + 1
-counted Exhausted n = n
-counted Fault n = n
+unfoldable pub counted : Result Outcome Decline → ℕ → ℕ
+counted (Ok Continue) n = n
+counted (Ok (Push root)) n = n
+counted (Ok (Emit value last)) n = n + 1
+counted (Ok Exhausted) n = n
+counted (Err d) n = n
 
 -- What a run of moves comes to, with the keys that were out.
 pub record Run : Type 0 where
@@ -38,18 +38,18 @@ goes_on whole last = whole && not last
 
 abbrev pub emitted_by : Bool → ℕ → Bool → ℕ → ℕ → Scan → Run
 emitted_by whole value last keys moves s =
-    pick whole (came_to Nothing false keys moves s) (came_to (Key (s.ctx.cursor.offset + s.ctx.cursor.len) value) last keys moves s)
+    pick whole (came_to (Ok None) false keys moves s) (came_to (key_out (s.ctx.cursor.offset + s.ctx.cursor.len) value) last keys moves s)
 
-unfoldable pub after_by : Bool → Outcome → ℕ → ℕ → Scan → Run → Run
-after_by whole Continue keys moves s rest = rest
-after_by whole (Push root) keys moves s rest = rest
-after_by whole (Emit value last) keys moves s rest =
+unfoldable pub after_by : Bool → Result Outcome Decline → ℕ → ℕ → Scan → Run → Run
+after_by whole (Ok Continue) keys moves s rest = rest
+after_by whole (Ok (Push root)) keys moves s rest = rest
+after_by whole (Ok (Emit value last)) keys moves s rest =
     pick (goes_on whole last) rest (emitted_by whole value last keys moves s)
-after_by whole Exhausted keys moves s rest = came_to Nothing false keys moves s
-after_by whole Fault keys moves s rest = came_to (Declined 22) false keys moves s
+after_by whole (Ok Exhausted) keys moves s rest = came_to (Ok None) false keys moves s
+after_by whole (Err d) keys moves s rest = came_to (Err d) false keys moves s
 
 unfoldable pub run_by : Bool → List ℕ → ℕ → List ℕ → ℕ → ℕ → ℕ → Scan → Run
-run_by whole image kind bound zero keys moves s = came_to (Declined 23) false keys moves s
+run_by whole image kind bound zero keys moves s = came_to (Err MovesSpent) false keys moves s
 run_by whole image kind bound (suc n) keys moves s =
     let m = move image kind bound s in
     let k = counted m.outcome keys in
@@ -82,38 +82,31 @@ is_next Down = false
 is_next Up = false
 
 unfoldable pub is_along : ScanCtx → Bool → Bool
-is_along c whole = whole && (is_next c.state && (not c.dup && eqb c.last c.cursor.ikey))
+is_along c whole = whole && is_next c.state && not c.dup && eqb c.last c.cursor.ikey
 
 pub record AfterKey (c : ScanCtx) : Type 0 where
   pub next : c.state ≡ FindNext
   pub not-due : c.dup ≡ false
   pub last-is : c.last ≡ c.cursor.ikey
 
-abbrev pub is_slow : LeafEnd → Bool
-is_slow Slow = true
-is_slow Bound = false
-is_slow Gone = false
-is_slow Spent = false
-
--- the loop's answer where the moves along a leaf are its last
-abbrev pub left_answer : LeafEnd → Answer
-left_answer Slow = Declined 23
-left_answer Bound = Nothing
-left_answer Gone = Declined 22
-left_answer Spent = Declined 23
+-- Where the moves along a leaf end: the loop goes on with what it comes to, or ends with an answer.
+abbrev pub along_to : Result LeafEnd Decline → Run → (Answer → Run) → Run
+along_to (Ok Slow) on ends = on
+along_to (Ok Bound) on ends = ends (Ok None)
+along_to (Err d) on ends = ends (Err d)
 
 -- what is left to do, from a scan on
 abbrev pub ahead : List ℕ → ℕ → List ℕ → ℕ → ℕ → Scan → Run
 ahead image kind bound keys moves s = run_by true image kind bound (length image - moves) keys moves s
 
-abbrev pub along_with : LeafEnd → ScanCtx → ℕ → ℕ → Along
+abbrev pub along_with : Result LeafEnd Decline → ScanCtx → ℕ → ℕ → Along
 along_with end c keys moves = record { end = end; ctx = c; keys = keys; moves = moves }
 
 -- What the moves along a leaf come to, r with the buffer b, is part of what all moves come to.
 pub record AlongFrom (image : List ℕ) (kind : ℕ) (bound buf : List ℕ) (c : ScanCtx) (keys moves : ℕ) (r : Along) (b : List ℕ) : Type 0 where
   pub same : (stack : List LayerContext) →
       (let s : Scan = record { ctx = r.ctx; buf = b; stack = stack } in
-      pick (is_slow r.end) (ahead image kind bound r.keys r.moves s) (came_to (left_answer r.end) false r.keys r.moves s))
+      along_to r.end (ahead image kind bound r.keys r.moves s) (λ answer. came_to answer false r.keys r.moves s))
       ≡ ahead image kind bound keys moves (record { ctx = c; buf = buf; stack = stack })
   pub after : AfterKey r.ctx
   pub in_range_lem : InRange r.ctx.depth r.ctx
@@ -121,8 +114,8 @@ pub record AlongFrom (image : List ℕ) (kind : ℕ) (bound buf : List ℕ) (c :
   pub few : r.keys ≤ r.moves
   pub grows : moves ≤ r.moves
   pub within : r.moves ≤ length image
-  pub tested : is_slow r.end ≡ true → (r.moves < length image) × (leaf_there image r.ctx.leaf ≡ true)
+  pub tested : r.end ≡ Ok Slow → (r.moves < length image) × (leaf_there image r.ctx.leaf ≡ true)
 
--- What a step is declined with where its first move's leaf is not there: 22, and 23 where no move may be made.
-abbrev pub gone_number : ℕ → ℕ
-gone_number n = pick (eqb n 0) 23 22
+-- Why a step is declined where its first move's leaf is not there: 22, and 23 where no move may be made.
+abbrev pub no_leaf : ℕ → Decline
+no_leaf n = pick (eqb n 0) MovesSpent Unreadable

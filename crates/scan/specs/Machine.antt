@@ -1,9 +1,9 @@
 -- The machine: a step of a walk, over any bytes and any walk record (01, "Step a walk" and "That
 -- loop, its Start and the numbers above are the machine").
-use Rattle.std.specs.Prelude.{◌&&◌, ◌+◌, ◌-◌}
+use Rattle.std.specs.Prelude.{◌&&◌, ◌+◌, ◌-◌, Some, None, Result, Ok, Err}
 use Rattle.base.specs.Kit.{Bool, true, false, not, List, ℕ, zero, suc, eqb, length, take, get_or, set}
 use Rattle.base.specs.Pick.{pick}
-use Rattle.scan.specs.Types.{StartMode, LayerContext, WalkState, WalkStateStart as Start, WalkStateRetry as Retry, WalkStateFindNext as FindNext, Ended, HandedOut, Walk, ScanState, ScanCtx, Outcome, Continue, Push, Emit, Exhausted, OutcomeFault as Fault, Answer, Key, Nothing, Declined, Stepped}
+use Rattle.scan.specs.Types.{StartMode, LayerContext, WalkState, WalkStateStart as Start, WalkStateRetry as Retry, WalkStateFindNext as FindNext, Ended, HandedOut, Walk, ScanState, ScanCtx, Outcome, Continue, Push, Emit, Exhausted, Pass, Answer, Decline, WalkRange, MovesSpent, Stepped}
 use Rattle.walk.specs.Walk.{nothing_yet, one_more, empty_context, walk_ok}
 use Rattle.moves.specs.Moves.{Taken, in_layer, pass_in}
 use Rattle.moves.specs.declared.context.ScanState.TheVariants as loop
@@ -14,8 +14,9 @@ pub record Scan : Type 0 where
   pub buf : List ℕ
   pub stack : List LayerContext
 
+-- What a move comes to; one that meets 22 is declined.
 pub record Moved : Type 0 where
-  pub outcome : Outcome
+  pub outcome : Result Outcome Decline
   pub scan : Scan
 
 -- "A layer: root and leaf stacked": the layer's root is the walk's from now on.
@@ -29,11 +30,10 @@ abbrev pub stacked : ScanCtx → List LayerContext → List LayerContext
 stacked c stack = set stack c.depth (layer_of c)
 
 unfoldable pub pushing : Outcome → Scan → Moved
-pushing (Push root) s = record { outcome = Continue; scan = record { ctx = entered root s.ctx; buf = s.buf; stack = stacked s.ctx s.stack } }
-pushing Continue s = record { outcome = Continue; scan = s }
-pushing (Emit value last) s = record { outcome = Emit value last; scan = s }
-pushing Exhausted s = record { outcome = Exhausted; scan = s }
-pushing Fault s = record { outcome = Fault; scan = s }
+pushing (Push root) s = record { outcome = Ok Continue; scan = record { ctx = entered root s.ctx; buf = s.buf; stack = stacked s.ctx s.stack } }
+pushing Continue s = record { outcome = Ok Continue; scan = s }
+pushing (Emit value last) s = record { outcome = Ok (Emit value last); scan = s }
+pushing Exhausted s = record { outcome = Ok Exhausted; scan = s }
 
 -- "pop": the layer above is the walk's again; "a popped one set to zero".
 abbrev pub popped : ScanCtx → List LayerContext → ScanCtx
@@ -44,9 +44,13 @@ popped c stack =
 abbrev pub unstacked : ScanCtx → List LayerContext → List LayerContext
 unstacked c stack = set stack (c.depth - 1) empty_context
 
--- A pass that may enter a layer.
-unfoldable pub moved_by : List LayerContext → Taken → Moved
-moved_by stack t = pushing t.pass.outcome (record { ctx = t.pass.ctx; buf = t.buf; stack = stack })
+-- A pass from s, which may enter a layer; one that is declined leaves s as it was.
+unfoldable pub passed_by : Scan → List ℕ → Result Pass Decline → Moved
+passed_by s buf (Ok p) = pushing p.outcome (record { ctx = p.ctx; buf = buf; stack = s.stack })
+passed_by s buf (Err d) = record { outcome = Err d; scan = s }
+
+abbrev pub moved_by : Scan → Taken → Moved
+moved_by s t = passed_by s t.buf t.pass
 
 abbrev pub is_up : ScanState → Bool
 is_up (loop.Start mode) = false
@@ -62,11 +66,15 @@ before z s = pick (is_up z) (record { ctx = popped s.ctx s.stack; buf = s.buf; s
 -- One pass of the loop: in Up the layer above is taken back, or the walk ends; then the pass; then a layer that it found is entered.
 unfoldable pub move_in : ScanState → List ℕ → ℕ → List ℕ → Scan → Moved
 move_in z image kind bound s =
-    pick (is_up z && eqb s.ctx.depth 0) (record { outcome = Exhausted; scan = s })
-    (let t = before z s in moved_by t.stack (pass_in z image kind bound t.buf t.ctx))
+    pick (is_up z && eqb s.ctx.depth 0) (record { outcome = Ok Exhausted; scan = s })
+    (let t = before z s in moved_by t (pass_in z image kind bound t.buf t.ctx))
 
 unfoldable pub move : List ℕ → ℕ → List ℕ → Scan → Moved
 move image kind bound s = move_in s.ctx.state image kind bound s
+
+-- The answer of a key that is out.
+abbrev pub key_out : ℕ → ℕ → Answer
+key_out len value = Ok (Some (record { len = len; value = value }))
 
 -- What a run of moves comes to; `last` tells that its answer is the key exactly at the included end.
 pub record Ran : Type 0 where
@@ -75,16 +83,16 @@ pub record Ran : Type 0 where
   pub moves : ℕ
   pub scan : Scan
 
-unfoldable pub after : Outcome → ℕ → Scan → Ran → Ran
-after Continue moves s rest = rest
-after (Push root) moves s rest = rest
-after (Emit value last) moves s rest = record { answer = Key (s.ctx.cursor.offset + s.ctx.cursor.len) value; last = last; moves = moves; scan = s }
-after Exhausted moves s rest = record { answer = Nothing; last = false; moves = moves; scan = s }
-after Fault moves s rest = record { answer = Declined 22; last = false; moves = moves; scan = s }
+unfoldable pub after : Result Outcome Decline → ℕ → Scan → Ran → Ran
+after (Ok Continue) moves s rest = rest
+after (Ok (Push root)) moves s rest = rest
+after (Ok (Emit value last)) moves s rest = record { answer = key_out (s.ctx.cursor.offset + s.ctx.cursor.len) value; last = last; moves = moves; scan = s }
+after (Ok Exhausted) moves s rest = record { answer = Ok None; last = false; moves = moves; scan = s }
+after (Err d) moves s rest = record { answer = Err d; last = false; moves = moves; scan = s }
 
 -- Moves until a key is out, the end or 22, n at most: "23: a call that would make more moves than the image has bytes".
 unfoldable pub run : List ℕ → ℕ → List ℕ → ℕ → ℕ → Scan → Ran
-run image kind bound zero moves s = record { answer = Declined 23; last = false; moves = moves; scan = s }
+run image kind bound zero moves s = record { answer = Err MovesSpent; last = false; moves = moves; scan = s }
 run image kind bound (suc n) moves s =
     let m = move image kind bound s in
     let rest = run image kind bound n (moves + 1) m.scan in
@@ -147,8 +155,8 @@ after_key true = Ended
 after_key false = FindNext
 
 -- "A declined call returns its number, zero elsewhere, and any walk as it came."
-abbrev pub declined_with : ℕ → Walk → Stepped
-declined_with n w = record { answer = Declined n; moves = 0; handed = nothing_yet; walk = w }
+abbrev pub declined_with : Decline → Walk → Stepped
+declined_with d w = record { answer = Err d; moves = 0; handed = nothing_yet; walk = w }
 
 -- An answer with its moves, the walk after them, and what that has handed out.
 abbrev pub answered : Answer → ℕ → Walk → Stepped
@@ -157,9 +165,9 @@ answered answer moves w = record { answer = answer; moves = moves; handed = w.ha
 -- 02 [13]: "The step's answer and the walk itself carry the depth at which the last key was found and how many have been handed out so far",
 -- "and a none gives both as they stand".
 abbrev pub stepped : Walk → Answer → Bool → ℕ → Scan → Stepped
-stepped w (Key len value) last moves s = answered (Key len value) moves (walk_of w (after_key last) (one_more w.handed s.ctx.depth) s)
-stepped w Nothing last moves s = answered Nothing moves (walk_of w Ended w.handed s)
-stepped w (Declined n) last moves s = declined_with n w
+stepped w (Ok (Some k)) last moves s = answered (Ok (Some k)) moves (walk_of w (after_key last) (one_more w.handed s.ctx.depth) s)
+stepped w (Ok None) last moves s = answered (Ok None) moves (walk_of w Ended w.handed s)
+stepped w (Err d) last moves s = declined_with d w
 
 unfoldable pub finished : Walk → Ran → Stepped
 finished w r = stepped w r.answer r.last r.moves r.scan
@@ -171,4 +179,4 @@ advance w image = finished w (run image w.bound.kind (take w.bound.len w.bound.k
 -- "An ended walk then answers none, zero moves."
 unfoldable pub step : Walk → List ℕ → Stepped
 step w image =
-    pick (not (walk_ok w (length image))) (declined_with 21 w) (pick (is_ended w.state) (answered Nothing 0 w) (advance w image))
+    pick (not (walk_ok w (length image))) (declined_with WalkRange w) (pick (is_ended w.state) (answered (Ok None) 0 w) (advance w image))

@@ -24,10 +24,8 @@ fn last_ikey(state: WalkState, ikey: u64) -> u64
     ensures { result ≡ last_ikey state ikey }
 {
     match state {
-        WalkState::Start => 0,
-        WalkState::Retry => 0,
         WalkState::FindNext => ikey,
-        WalkState::Ended => 0,
+        WalkState::Start | WalkState::Retry | WalkState::Ended => 0,
     }
 }
 
@@ -36,21 +34,18 @@ pub fn ctx_of(walk: Walk) -> ScanCtx
     ensures { result ≡ ctx_of walk }
 {
     let k = walk.cursor;
-    let position = walk.position;
-    let mode = walk.mode;
-    let state = walk.state;
     ScanCtx {
         root: walk.root,
         leaf: walk.leaf,
-        position: position,
+        position: walk.position,
         cursor: CursorPlace {
             offset: k.offset,
             len: k.len,
             ikey: k.ikey,
         },
         depth: walk.depth,
-        state: scan_state(mode, state),
-        last: last_ikey(state, k.ikey),
+        state: scan_state(walk.mode, walk.state),
+        last: last_ikey(walk.state, k.ikey),
         dup: false,
     }
 }
@@ -67,25 +62,20 @@ pub fn walk_of(
     ensures { result ≡ walk_of walk state handed (record { ctx = c; buf = buf; stack = stack }) }
 {
     let k = c.cursor;
-    let position = c.position;
-    let bound = walk.bound;
-    let mode = walk.mode;
     Walk {
-        image_len: walk.image_len,
         root: c.root,
         leaf: c.leaf,
-        position: position,
+        position: c.position,
         cursor: CursorKey {
-            buf: buf,
+            buf,
             offset: k.offset,
             len: k.len,
             ikey: k.ikey,
         },
         depth: c.depth,
-        stack: stack,
-        bound: bound,
-        mode: mode,
-        state: state,
-        handed: handed,
+        stack,
+        state,
+        handed,
+        ..walk
     }
 }

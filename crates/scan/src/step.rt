@@ -7,10 +7,12 @@ ghost use Rattle.scan.specs.Machine.{advance, step};
 ghost use Rattle.scan.specs.CodeLoop.{keys_left};
 
 use crate::{forward_ctx, scan_ctx};
-use moves::fast_path::{FastSlot, NextKey};
+use base::Decline;
+use moves::fast_path::NextKey;
 use moves::{context, fast_path, stored_key};
+use node::leaf::LeafReader;
 use search::traversal;
-use walk::scan_state::{Answer, Stepped, Walk, WalkState};
+use walk::scan_state::{KeyOut, Stepped, Walk, WalkState};
 use walk::walk_ok;
 
 // A step of a walk that has handed out a key. Most take the next slot's key, by the fast path; the loop makes every other, and its first
@@ -21,30 +23,29 @@ fn step_next(walk: Walk, image: &[u8]) -> Stepped
     ensures { result ≡ advance walk image.now }
 {
     if !traversal::is_leaf_there(image, walk.leaf) {
-        return forward_ctx::declined(forward_ctx::gone_number(image.len()), walk);
+        return forward_ctx::declined(forward_ctx::no_leaf(image.len()), walk);
     }
     let c = scan_ctx::ctx_of(walk);
-    let at = c.leaf as usize;
-    let position = c.position;
-    let k = c.cursor;
-    let fast = fast_path::fast_slot(image, at, position, k);
-    match fast {
-        FastSlot::Slow => forward_ctx::advance_no_alloc(walk, image, true),
-        FastSlot::At(slot) => {
-            let bound = key::part_of(&walk.bound.key, 0, walk.bound.len);
+    let leaf = LeafReader {
+        image,
+        at: c.leaf as usize,
+    };
+    match fast_path::fast_slot(leaf, c.position, c.cursor) {
+        None => forward_ctx::advance_no_alloc(walk, image, true),
+        Some(slot) => {
+            let end = walk.bound.end();
             let mut buf = walk.cursor.buf;
-            let stored = stored_key::store_key(image, at, slot, &mut buf, k);
-            let next = fast_path::hand_out(image, walk.bound.kind, bound, &buf, at, slot, stored);
-            match next {
+            let stored = stored_key::store_key(leaf, slot, &mut buf, c.cursor);
+            match fast_path::hand_out(leaf, end, &buf, slot, stored) {
                 NextKey::Out { k, value, last } => {
                     let len = k.offset + k.len;
                     let on = context::go_on(c, k, k.ikey);
-                    let answer = Answer::Key { len, value };
+                    let answer = Ok(Some(KeyOut { len, value }));
                     forward_ctx::stepped(walk, answer, last, 1, on, buf, walk.stack)
                 }
                 NextKey::Past(k) => {
                     let on = context::go_on(c, k, k.ikey);
-                    forward_ctx::stepped(walk, Answer::Nothing, false, 1, on, buf, walk.stack)
+                    forward_ctx::stepped(walk, Ok(None), false, 1, on, buf, walk.stack)
                 }
             }
         }
@@ -56,19 +57,16 @@ pub fn step(walk: Walk, image: &[u8]) -> Stepped
     ensures { result ≡ step walk image.now }
 {
     if !walk_ok::is_walk_ok(walk, image.len()) {
-        return forward_ctx::declined(21, walk);
+        return forward_ctx::declined(Decline::WalkRange, walk);
     }
-    let state = walk.state;
-    let handed = walk.handed;
-    match state {
+    match walk.state {
         WalkState::Ended => Stepped {
-            answer: Answer::Nothing,
+            answer: Ok(None),
             moves: 0,
-            handed: handed,
-            walk: walk,
+            handed: walk.handed,
+            walk,
         },
-        WalkState::Start => forward_ctx::advance_no_alloc(walk, image, false),
-        WalkState::Retry => forward_ctx::advance_no_alloc(walk, image, false),
+        WalkState::Start | WalkState::Retry => forward_ctx::advance_no_alloc(walk, image, false),
         WalkState::FindNext => step_next(walk, image),
     }
 }
@@ -80,11 +78,10 @@ pub fn count_keys(walk: Walk, image: &[u8]) -> usize
     if !walk_ok::is_walk_ok(walk, image.len()) {
         return 0;
     }
-    let state = walk.state;
-    match state {
+    match walk.state {
         WalkState::Ended => 0,
-        WalkState::Start => forward_ctx::count_ahead(walk, image),
-        WalkState::Retry => forward_ctx::count_ahead(walk, image),
-        WalkState::FindNext => forward_ctx::count_ahead(walk, image),
+        WalkState::Start | WalkState::Retry | WalkState::FindNext => {
+            forward_ctx::count_ahead(walk, image)
+        }
     }
 }

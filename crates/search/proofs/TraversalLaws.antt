@@ -1,11 +1,12 @@
 -- What the code's tests say of `readable`, of the kind of a record, and of the descent to a leaf.
-use Rattle.std.specs.Prelude.{◌≡◌, ◌&&◌, ◌+◌, ◌-◌, ◌%◌, ◌≤◌, ◌<◌}
+use Rattle.std.specs.Prelude.{◌≡◌, ◌&&◌, ◌+◌, ◌-◌, ◌%◌, ◌≤◌, ◌<◌, Result, Ok, Err}
 use Rattle.base.specs.Kit.{refl, sym, ◌∙◌, Bool, true, false, not, and-eq-true_iff, List, ℕ, zero, suc, add-one, arith, leb-true, leb-false, eqb-true, le-leb, lt-leb, eq-eqb, ne_eqb, lt-ltb, le-ltb, not-true, not-false, leb, ltb, eqb, length}
 use Rattle.base.specs.Pick.{pick}
+use Rattle.base.specs.Decline.{and_then}
 use Rattle.node.specs.Version.{is_leaf, at_rest}
 use Rattle.node.specs.Layout.{version_at, nkeys_at}
 use Rattle.search.specs.Traversal.{readable, record_at, by_kind, child_for, reach_from, reach}
-use Rattle.search.specs.Types.{RecordKind, RecordKindLeaf as Leaf, Internode, Unreadable, Reached, ReachedLeaf, ReachedFault}
+use Rattle.search.specs.Types.{Decline, Unreadable, RecordKind, Leaf, Internode}
 
 module _ (image : List ℕ) (at n : ℕ) where
   pub in_image : readable image at n ≡ true → (8 ≤ at) × (at + n + 32 ≤ length image)
@@ -34,17 +35,17 @@ module _ (image : List ℕ) (at n : ℕ) where
 
 -- the tests of `record_at`, in its order: r is what `is_readable` said, v the version that was read
 module _ (image : List ℕ) (at : ℕ) where
-  pub not_aligned : (at % 8 ≡ 0 → ⊥) → Unreadable ≡ record_at image at
+  pub not_aligned : (at % 8 ≡ 0 → ⊥) → Err Unreadable ≡ record_at image at
   unfolding record_at pick
   not_aligned h = rw (ne_eqb (at % 8) 0 h)
 
   module _ (m : at % 8 ≡ 0) (r : Bool) (e : r ≡ readable image at 256) where
-    pub not-readable : not r ≡ true → Unreadable ≡ record_at image at
+    pub not-readable : not r ≡ true → Err Unreadable ≡ record_at image at
     unfolding record_at pick
     not-readable t = rw (eq-eqb (at % 8) 0 m, ← e, not-true r t)
 
-    pub versioned : not r ≡ false → (v : ℕ) → v ≡ version_at image at → (z : RecordKind)
-        → z ≡ pick (not (at_rest v)) Unreadable (pick (not (is_leaf v)) Internode (pick (readable image at 400) Leaf Unreadable))
+    pub versioned : not r ≡ false → (v : ℕ) → v ≡ version_at image at → (z : Result RecordKind Decline)
+        → z ≡ pick (not (at_rest v)) (Err Unreadable) (pick (not (is_leaf v)) (Ok Internode) (pick (readable image at 400) (Ok Leaf) (Err Unreadable)))
         → z ≡ record_at image at
     unfolding record_at pick
     versioned t v f z g = rw (eq-eqb (at % 8) 0 m, ← e, not-false r t, ← f) g
@@ -68,9 +69,9 @@ module _ (image : List ℕ) (at : ℕ) where
       let in_image = in_image image at 256 both.1 in
       (eqb-true (at % 8) 0 both.0, in_image.0, in_image.1)
 
-  pub internode_in : record_at image at ≡ Internode → (at % 8 ≡ 0) × (8 ≤ at) × (at + 256 + 32 ≤ length image)
+  pub internode_in : record_at image at ≡ Ok Internode → (at % 8 ≡ 0) × (8 ≤ at) × (at + 256 + 32 ≤ length image)
   unfolding record_at
-  internode_in e = in-record (not_first _ _ _ _ (λ n. let z : ◌≡◌ {A = ℕ} 0 1 = cc in omega arith) e).0
+  internode_in e = in-record (not_first _ _ _ _ (λ n. cc) e).0
 
 -- the second of a choice, where it is taken
 pick_second : {A : Type 0} (b : Bool) (x y z : A) → (b ≡ false → y ≡ z) → pick b x y ≡ pick b x z
@@ -79,16 +80,19 @@ pick_second true x y z e = refl
 pick_second false x y z e = e refl
 
 module _ (image : List ℕ) (ikey : ℕ) where
-  -- what a descent says of a record of a kind, by what it says of the child
-  abbrev pub turn_of : RecordKind → ℕ → Reached → Reached
+  -- what a descent says of a record, by what it says of the child
+  abbrev pub turn_of : RecordKind → ℕ → Result ℕ Decline → Result ℕ Decline
   turn_of kind at rest =
-      by_kind kind (ReachedLeaf at)
-      (pick (ltb 15 (nkeys_at image at)) ReachedFault (pick (leb at (child_for image at ikey)) ReachedFault rest))
-      ReachedFault
+      by_kind kind (Ok at) (pick (ltb 15 (nkeys_at image at)) (Err Unreadable) (pick (leb at (child_for image at ikey)) (Err Unreadable) rest))
 
-  turn-same : (kind : RecordKind) (at : ℕ) (x y : Reached) → (child_for image at ikey < at → x ≡ y) → turn_of kind at x ≡ turn_of kind at y
-  turn-same kind at x y e =
-      rw (pick_second (leb at (child_for image at ikey)) ReachedFault x y (λ f. e (leb-false at (child_for image at ikey) f)))
+  abbrev pub turn_at : Result RecordKind Decline → ℕ → Result ℕ Decline → Result ℕ Decline
+  turn_at r at rest = and_then r (λ kind. turn_of kind at rest)
+
+  turn-same : (r : Result RecordKind Decline) (at : ℕ) (x y : Result ℕ Decline) → (child_for image at ikey < at → x ≡ y) → turn_at r at x ≡ turn_at r at y
+  unfolding and_then
+  turn-same (Ok kind) at x y e =
+      rw (pick_second (leb at (child_for image at ikey)) (Err Unreadable) x y (λ f. e (leb-false at (child_for image at ikey) f)))
+  turn-same (Err d) at x y e = refl
 
   -- any count above the offset is enough
   enough : (n m at : ℕ) → at < n → at < m → reach_from n image ikey at ≡ reach_from m image ikey at
@@ -97,35 +101,41 @@ module _ (image : List ℕ) (ikey : ℕ) where
   enough (suc n) zero at h g = absurd (omega arith)
   enough (suc n) (suc m) at h g = turn-same _ at _ _ (λ l. enough n m (child_for image at ikey) (omega arith) (omega arith))
 
-  pub reach_turn : (at : ℕ) → reach image ikey at ≡ turn_of (record_at image at) at (reach image ikey (child_for image at ikey))
+  pub reach_turn : (at : ℕ) → reach image ikey at ≡ turn_at (record_at image at) at (reach image ikey (child_for image at ikey))
   unfolding reach_from reach
   reach_turn at =
       rw (add-one at) (turn-same _ at _ _ (λ l. enough at (child_for image at ikey + 1) (child_for image at ikey) l (omega arith)))
 
-  -- The descent from `at` comes to w, as the whole does; k is the kind of record that was found at `at`.
-  module _ (at : ℕ) (w : Reached) (same : reach image ikey at ≡ w) (k : RecordKind) (e : k ≡ record_at image at) where
-    same_turn : (kind : RecordKind) → k ≡ kind → turn_of kind at (reach image ikey (child_for image at ikey)) ≡ w
-    same_turn kind h = rw (← h, e) (sym (reach_turn at) ∙ same)
+  -- The descent from `at` comes to w, as the whole does.
+  module _ (at : ℕ) (w : Result ℕ Decline) (same : reach image ikey at ≡ w) where
+    turn_is : (r : Result RecordKind Decline) → r ≡ record_at image at → turn_at r at (reach image ikey (child_for image at ikey)) ≡ w
+    turn_is r e = rw e (sym (reach_turn at) ∙ same)
 
-    pub no_record : k ≡ Unreadable → ReachedFault ≡ w
-    unfolding by_kind
-    no_record h = same_turn Unreadable h
+    pub no_record : (d : Decline) → Err d ≡ record_at image at → Err d ≡ w
+    unfolding and_then
+    no_record d e = turn_is (Err d) e
 
-    pub at_leaf : k ≡ Leaf → ReachedLeaf at ≡ w
-    unfolding by_kind
-    at_leaf h = same_turn Leaf h
+    -- k is the kind of record that was found at `at`
+    module _ (k : RecordKind) (e : Ok k ≡ record_at image at) where
+      same_turn : (kind : RecordKind) → k ≡ kind → turn_of kind at (reach image ikey (child_for image at ikey)) ≡ w
+      unfolding and_then
+      same_turn kind h = rw (← h) (turn_is (Ok k) e)
 
-    -- an internode of n keys
-    module _ (h : k ≡ Internode) (n : ℕ) (f : n ≡ nkeys_at image at) where
-      pub too_many : 15 < n → ReachedFault ≡ w
-      unfolding by_kind pick
-      too_many l = rw (← f, lt-ltb 15 n l) at (same_turn Internode h)
+      pub at_leaf : k ≡ Leaf → Ok at ≡ w
+      unfolding by_kind
+      at_leaf h = same_turn Leaf h
 
-      module _ (l : n ≤ 15) (child : ℕ) (g : child ≡ child_for image at ikey) where
-        pub not_lower : at ≤ child → ReachedFault ≡ w
+      -- an internode of n keys
+      module _ (h : k ≡ Internode) (n : ℕ) (f : n ≡ nkeys_at image at) where
+        pub too_many : 15 < n → Err Unreadable ≡ w
         unfolding by_kind pick
-        not_lower o = rw (← f, le-ltb 15 n l, ← g, le-leb at child o) at (same_turn Internode h)
+        too_many l = rw (← f, lt-ltb 15 n l) at (same_turn Internode h)
 
-        pub lower : child < at → reach image ikey child ≡ w
-        unfolding by_kind pick
-        lower o = rw (← f, le-ltb 15 n l, ← g, lt-leb at child o) at (same_turn Internode h)
+        module _ (l : n ≤ 15) (child : ℕ) (g : child ≡ child_for image at ikey) where
+          pub not_lower : at ≤ child → Err Unreadable ≡ w
+          unfolding by_kind pick
+          not_lower o = rw (← f, le-ltb 15 n l, ← g, le-leb at child o) at (same_turn Internode h)
+
+          pub lower : child < at → reach image ikey child ≡ w
+          unfolding by_kind pick
+          lower o = rw (← f, le-ltb 15 n l, ← g, lt-leb at child o) at (same_turn Internode h)

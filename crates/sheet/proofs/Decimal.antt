@@ -1,10 +1,10 @@
 -- Decimals: their digits from the last to the first, how many there are, and what one store of a digit adds. The bound of
 -- twenty digits is enough for every number below 2^64, so that it drops out of the laws.
-use Rattle.std.specs.Prelude.{◌≡◌, ◌∷◌, ◌++◌, ◌+◌, ◌/◌, ◌%◌, ◌^◌, ◌≤◌, ◌<◌}
-use Rattle.base.specs.Kit.{sym, ap, Bool, true, false, List, [], ℕ, zero, suc, arith, ltb, length, set, length-append, paste, lt-ltb, le-ltb}
+use Rattle.std.specs.Prelude.{◌≡◌, ◌∷◌, ◌++◌, ◌+◌, ◌*◌, ◌/◌, ◌%◌, ◌^◌, ◌≤◌, ◌<◌}
+use Rattle.base.specs.Kit.{refl, sym, ap, ◌∙◌, ltb-true, add-one, paste-zero, pow-suc, one-le-pow, Bool, true, false, List, [], ℕ, zero, suc, arith, ltb, length, set, length-append, paste, lt-ltb, le-ltb}
 use Rattle.base.specs.Pick.{pick}
 use Rattle.sheet.specs.Sheet.{decimal_in, decimal}
-use Rattle.sheet.proofs.Paste.{paste-one, paste-last}
+use Rattle.sheet.proofs.Paste.{paste-last}
 
 -- a bound that is enough may be one more
 enough : (n x : ℕ) → x < 10 ^ suc n → decimal_in (suc (suc n)) x ≡ decimal_in (suc n) x
@@ -27,8 +27,20 @@ decimal-more x h g =
 pub decimal-one-length : (x : ℕ) → x < 10 → length (decimal x) ≡ 1
 decimal-one-length x h = rw (decimal-one x h)
 
-pub decimal-more-length : (x : ℕ) → 10 ≤ x → x < 2 ^ 64 → length (decimal x) ≡ length (decimal (x / 10)) + 1
-decimal-more-length x h g = rw (decimal-more x h g) (length-append (decimal (x / 10)) _)
+-- as many digits as powers of ten that are no greater, beside the first
+size : (n k x : ℕ) → k < n → 10 ^ k ≤ x → x < 10 * 10 ^ k → length (decimal_in n x) ≡ k + 1
+unfolding decimal_in pick
+size zero k x h l u = absurd (omega arith)
+size (suc n) zero x h l u = rw (lt-ltb x 10 (omega arith))
+size (suc n) (suc k) x h l u =
+    let e : 10 ^ suc k ≡ 10 ^ k * 10 = pow-suc 10 k in
+    let p : 1 ≤ 10 ^ k = one-le-pow k 10 (omega arith) in
+    let r : length (decimal_in n (x / 10)) ≡ k + 1 = size n k (x / 10) (omega arith) (omega arith) (omega arith) in
+    rw (le-ltb x 10 (omega arith)) (omega (arith, length-append (decimal_in n (x / 10)) ((48 + x % 10) ∷ []), r))
+
+pub decimal-size : (k x : ℕ) → k < 20 → 10 ^ k ≤ x → x < 10 * 10 ^ k → length (decimal x) ≡ k + 1
+unfolding decimal
+decimal-size k x = size 20 k x
 
 -- One to twenty digits: at each turn one digit, alone or behind what came before.
 one_more_lem : (b : Bool) (x y n : ℕ) (l : List ℕ) → length l ≤ n
@@ -46,15 +58,41 @@ pub decimal-length : (x : ℕ) → (1 ≤ length (decimal x)) × (length (decima
 unfolding decimal decimal_in
 decimal-length x = one_more_lem (ltb x 10) (48 + x) (48 + x % 10) 19 (decimal_in 19 (x / 10)) (at_most 19 (x / 10))
 
--- The digits of x, written at `at`: the last, then those before it; a single one.
-module _ (out : List ℕ) (at x i : ℕ) (e : i + 1 ≡ at + length (decimal x)) (h : i < length out) where
-  pub digit-more : 10 ≤ x → x < 2 ^ 64
-      → paste (set out i (48 + x % 10)) at (decimal (x / 10)) (length (decimal (x / 10))) ≡ paste out at (decimal x) (length (decimal x))
-  digit-more g f =
-      let k : i ≡ at + length (decimal (x / 10)) = omega (arith, decimal-more-length x g f) in
-      rw (decimal-more x g f, k) (paste-last out at (decimal (x / 10)) (48 + x % 10) (rw (← k) h))
+-- The last m digits of x, the highest of them first; all of them are its decimal.
+unfoldable pub lasts : ℕ → ℕ → List ℕ
+lasts zero x = []
+lasts (suc m) x = lasts m (x / 10) ++ ((48 + x % 10) ∷ [])
 
-  pub digit-one : x < 10 → set out i (48 + x) ≡ paste out at (decimal x) (length (decimal x))
-  digit-one g =
-      let k : i ≡ at = omega (arith, decimal-one-length x g) in
-      rw (decimal-one x g, k) (paste-one out at (48 + x) (rw (← k) h))
+lasts-length : (m x : ℕ) → length (lasts m x) ≡ m
+unfolding lasts
+lasts-length zero x = refl
+lasts-length (suc m) x = omega (arith, length-append (lasts m (x / 10)) ((48 + x % 10) ∷ []), lasts-length m (x / 10))
+
+lasts-are : (n x : ℕ) → lasts (length (decimal_in n x)) x ≡ decimal_in n x
+unfolding lasts decimal_in pick
+lasts-are zero x = refl
+lasts-are (suc n) x = go (ltb x 10) refl (decimal_in n (x / 10)) (lasts-are n (x / 10))
+  where
+    go : (b : Bool) → ltb x 10 ≡ b → (before : List ℕ) → lasts (length before) (x / 10) ≡ before
+        → lasts (length (pick b ((48 + x) ∷ []) (before ++ ((48 + x % 10) ∷ [])))) x ≡ pick b ((48 + x) ∷ []) (before ++ ((48 + x % 10) ∷ []))
+    go true e before h = let d : x % 10 ≡ x = omega (arith, ltb-true x 10 e) in rw d
+    go false e before h = rw (length-append before ((48 + x % 10) ∷ []), add-one, h)
+
+pub lasts-all : (x : ℕ) → lasts (length (decimal x)) x ≡ decimal x
+unfolding decimal
+lasts-all x = lasts-are 20 x
+
+-- one more of them is the lowest, stored behind the others
+module _ (out : List ℕ) (at m x : ℕ) {w : List ℕ} where
+  pub lasts-more : (j n k : ℕ) → j ≡ at + m → n ≡ m → k ≡ suc m → j < length out → paste out at (lasts k x) (length (lasts k x)) ≡ w
+      → paste (set out j (48 + x % 10)) at (lasts n (x / 10)) (length (lasts n (x / 10))) ≡ w
+  unfolding lasts
+  lasts-more j n k e f g h whole =
+      let l = lasts m (x / 10) in
+      let p : j ≡ at + length l = omega (arith, lasts-length m (x / 10)) in
+      rw (p, f) (paste-last out at l (48 + x % 10) (rw (← p) h)) ∙ (rw g at whole)
+
+-- none is left
+pub lasts-none : (out : List ℕ) (at n x : ℕ) {w : List ℕ} → n ≡ 0 → paste out at (lasts n x) (length (lasts n x)) ≡ w → out ≡ w
+unfolding lasts
+lasts-none out at n x e whole = paste-zero out at [] ∙ (rw e at whole)

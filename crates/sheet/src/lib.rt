@@ -1,7 +1,8 @@
 // The lines of sheet edition 1, written into a lent buffer.
 //
 // Interface: `first_line`, `pair_line`, `last_line` and `refused_line`. None has a `requires`: where the buffer is too short for
-// the line nothing is written, and the length is 0. What stands past the written length stays as it was.
+// the line nothing is written, and the length is 0, which no line has: an Option would say no more. What stands past the written
+// length stays as it was.
 #![tactic(auto)]
 
 ghost use Rattle.std.specs.Prelude.{◌∷◌, ◌++◌, ◌≡◌, ◌+◌, ◌*◌, ◌≤◌, ◌<◌};
@@ -28,10 +29,7 @@ pub fn pair_line(out: &mut [u8], key: &[u8], value: u64) -> usize
         × (out.new ≡ written_out (pair_line (record { key = key.entry.now; value = value })) out.old) }
 {
     let h = hex_key_len(key);
-    if out.len() < h {
-        return 0;
-    }
-    if out.len() < h + decimal_len(value) + 2 {
+    if out.len() < h || out.len() < h + decimal_len(value) + 2 {
         return 0;
     }
     put_hex_key(out, key);
@@ -83,30 +81,24 @@ fn put_decimal_end(out: &mut [u8], at: usize, x: u64) -> usize
 fn decimal_len(x: u64) -> usize
     ensures { result ≡ length (decimal x) }
 {
-    let mut n = 1;
-    let mut rest = x;
-    while 10 <= rest {
-        rest = rest / 10;
-        n += 1;
+    match x.checked_ilog10() {
+        Some(n) => n as usize + 1,
+        None => 1,
     }
-    n
 }
 
-// The decimal of x into out, from `at` on, its last digit first; the place after it. 48 is the byte `0`.
+// The decimal of x into out, from `at` on, its last digit first; the place after it.
 fn put_decimal(out: &mut [u8], at: usize, x: u64) -> usize
     requires { at + length (decimal x) ≤ length out.old }
     ensures { (result ≡ at + length (decimal x))
         × (out.new ≡ paste out.old at (decimal x) (length (decimal x))) }
 {
     let end = at + decimal_len(x);
-    let mut i = end - 1;
     let mut rest = x;
-    while 10 <= rest {
-        out[i] = 48 + (rest % 10) as u8;
-        rest = rest / 10;
-        i -= 1;
+    for i in (at..end).rev() {
+        out[i] = b'0' + (rest % 10) as u8;
+        rest /= 10;
     }
-    out[i] = 48 + rest as u8;
     end
 }
 
@@ -114,10 +106,7 @@ fn put_decimal(out: &mut [u8], at: usize, x: u64) -> usize
 fn hex_key_len(key: &[u8]) -> usize
     ensures { result ≡ length (hex_key key.now) }
 {
-    if key.len() == 0 {
-        return 1;
-    }
-    2 * key.len()
+    if key.is_empty() { 1 } else { 2 * key.len() }
 }
 
 // A key in hex at the front of out, `-` for the empty key.
@@ -125,11 +114,11 @@ fn put_hex_key(out: &mut [u8], key: &[u8])
     requires { length (hex_key key.now) ≤ length out.old }
     ensures { out.new ≡ paste out.old 0 (hex_key key.now) (length (hex_key key.now)) }
 {
-    if key.len() == 0 {
+    if key.is_empty() {
         out[0] = b'-';
-        return;
+    } else {
+        put_hex(out, key);
     }
-    put_hex(out, key);
 }
 
 // Two hex digits for each byte of a key, at the front of out.
@@ -137,22 +126,17 @@ fn put_hex(out: &mut [u8], key: &[u8])
     requires { 2 * length key.now ≤ length out.old }
     ensures { out.new ≡ paste out.old 0 (hex_bytes key.now) (length (hex_bytes key.now)) }
 {
-    let mut i = 0;
-    while i < key.len() {
-        let b = key[i];
+    for (i, b) in key.iter().enumerate() {
         out[2 * i] = hex_digit(b / 16);
         out[2 * i + 1] = hex_digit(b % 16);
-        i += 1;
     }
 }
 
-// A hex digit in lower case: 48 is the byte `0`, and 97 the byte `a`.
+// A hex digit in lower case.
+#[tactic(auto, unfolding(crate::specs::Sheet::hex_digit, base::specs::Pick::pick))]
 fn hex_digit(x: u8) -> u8
     requires { x < 16 }
     ensures { result ≡ hex_digit x }
 {
-    if x < 10 {
-        return 48 + x;
-    }
-    87 + x
+    if x < 10 { b'0' + x } else { b'a' + (x - 10) }
 }

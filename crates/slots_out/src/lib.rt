@@ -35,12 +35,10 @@ pub fn add_shorts(sheet: &[u8], line: usize, n: usize, depth: usize, slots: Leaf
 {
     let mut place = line;
     let mut s = slots;
-    let mut i = 0;
-    while i < n {
+    for _ in 0..n {
         let r = lowered_at(sheet, place, depth);
         s = add_slot(s, r.ikey, r.len as u8, r.value, 0, true);
         place = r.next;
-        i += 1;
     }
     s
 }
@@ -62,19 +60,13 @@ pub fn add_suffix(
         → GroupLaid out.new result (laid (record { out = out.old; at = at; fields = fs }) (long_slots sub (lines_at sheet.now depth line 1))) }
 {
     let mut buf = [0u8; 256];
-    let r = station_at(sheet, line, &mut buf);
-    let from = 8 * depth;
-    let n = r.key_len - from;
-    let behind = put_padded(out, at, part_of(&buf, from + 8, n - 8));
+    let read = station_at(sheet, line, &mut buf).unwrap();
+    let key = part_of(&buf, 8 * depth, read.key_len - 8 * depth);
+    let suffix = &key[8..];
+    let behind = put_padded(out, at, suffix);
+    let word = at as u64 + suffix.len() as u64 * 4294967296;
     Slotted {
         at: behind,
-        slots: add_slot(
-            slots,
-            ikey_of(part_of(&buf, from, n)),
-            64,
-            r.value,
-            at as u64 + (n - 8) as u64 * 4294967296,
-            true,
-        ),
+        slots: add_slot(slots, ikey_of(key), 64, read.value, word, true),
     }
 }

@@ -6,28 +6,28 @@ ghost use Rattle.std.specs.Prelude.{◌≡◌, ◌+◌, ◌≤◌};
 ghost use Rattle.node.specs.Layout.{InLeaf, InSlot};
 ghost use Rattle.start.specs.Start.{at_equal, short_verdict, suffix_verdict, long_verdict, verdict, start_position};
 
+use base::Decline;
 use cursor::cursor_key::CursorPlace;
 use cursor::range_bound::StartMode;
-use key::Ordering;
+use node::leaf::LeafReader;
 use node::permuter::{Position, Slot};
 use node::{leaf, permuter};
 use search::helper;
+use std::cmp::Ordering;
 
-// What Start makes of a slot: it is passed over; the walk stands there; its layer is entered; it cannot be read.
-#[derive(Clone, Copy)]
+// What Start makes of a slot: it is passed over; the walk stands there; its layer is entered.
+#[derive(Clone, Copy, Debug, PartialEq, Eq)]
 pub enum Verdict {
     Pass,
     Stand,
     Enter,
-    Fault,
 }
 
 // Where Start comes to in a leaf: a position to stand at, or a slot whose layer is entered.
-#[derive(Clone, Copy)]
+#[derive(Clone, Copy, Debug, PartialEq, Eq)]
 pub enum Started {
     At(Position),
     Enter(Slot),
-    Fault,
 }
 
 // A key equal to the cursor: mode above stands past it.
@@ -45,142 +45,120 @@ fn short_verdict(mode: StartMode, k: CursorPlace, ikey: u64, keylenx: usize) -> 
     requires { k.offset + k.len ≤ 256 }
     ensures { result ≡ short_verdict mode k ikey keylenx }
 {
-    if ikey < k.ikey {
-        return Verdict::Pass;
+    match ikey.cmp(&k.ikey).then(keylenx.cmp(&k.len)) {
+        Ordering::Less => Verdict::Pass,
+        Ordering::Equal => {
+            if 8 < k.offset + k.len {
+                return at_equal(mode);
+            }
+            Verdict::Stand
+        }
+        Ordering::Greater => Verdict::Stand,
     }
-    if k.ikey < ikey {
-        return Verdict::Stand;
-    }
-    if keylenx < k.len {
-        return Verdict::Pass;
-    }
-    if k.len < keylenx {
-        return Verdict::Stand;
-    }
-    if 8 < k.offset + k.len {
-        return at_equal(mode);
-    }
-    Verdict::Stand
 }
 
 // A suffix against the cursor's rest.
 fn suffix_verdict(
     mode: StartMode,
-    image: &[u8],
-    leaf: usize,
+    leaf: LeafReader,
     k: CursorPlace,
     buf: &[u8; 256],
     slot: Slot,
-) -> Verdict
-    requires in_slot { InSlot image.now leaf slot }
+) -> Result<Verdict, Decline>
+    requires in_slot { InSlot leaf.image.now leaf.at slot }
     requires len_bound { k.offset + k.len ≤ 256 }
-    ensures { result ≡ suffix_verdict mode image.now leaf k buf.now slot }
+    ensures { result ≡ suffix_verdict mode leaf.entry.image.now leaf.entry.at k buf.now slot }
 {
-    if !helper::is_suffix_readable(image, leaf, slot) {
-        return Verdict::Fault;
+    if !helper::is_suffix_readable(leaf, slot) {
+        return Err(Decline::Unreadable);
     }
-    let suffix = leaf::ksuf(image, leaf, slot);
+    let suffix = leaf.ksuf(slot);
     if 256 < k.offset + 8 + suffix.len {
-        return Verdict::Fault;
+        return Err(Decline::Unreadable);
     }
-    let order = key::compare(helper::stored_suffix(image, leaf, slot), k.suffix(buf));
-    match order {
-        Ordering::Less => Verdict::Pass,
-        Ordering::Equal => at_equal(mode),
-        Ordering::Greater => Verdict::Stand,
+    match key::compare(helper::stored_suffix(leaf, slot), k.suffix(buf)) {
+        Ordering::Less => Ok(Verdict::Pass),
+        Ordering::Equal => Ok(at_equal(mode)),
+        Ordering::Greater => Ok(Verdict::Stand),
     }
 }
 
 // With more left: by ikey, and of one ikey by what the slot goes on in.
 fn long_verdict(
     mode: StartMode,
-    image: &[u8],
-    leaf: usize,
+    leaf: LeafReader,
     k: CursorPlace,
     buf: &[u8; 256],
     slot: Slot,
-) -> Verdict
-    requires in_slot { InSlot image.now leaf slot }
+) -> Result<Verdict, Decline>
+    requires in_slot { InSlot leaf.image.now leaf.at slot }
     requires len_bound { k.offset + k.len ≤ 256 }
-    ensures { result ≡ long_verdict mode image.now leaf k buf.now slot }
+    ensures { result ≡ long_verdict mode leaf.entry.image.now leaf.entry.at k buf.now slot }
 {
-    let ikey = leaf::ikey(image, leaf, slot);
+    let ikey = leaf.ikey(slot);
     if ikey < k.ikey {
-        return Verdict::Pass;
+        return Ok(Verdict::Pass);
     }
     if k.ikey < ikey {
-        return Verdict::Stand;
+        return Ok(Verdict::Stand);
     }
-    let keylenx = leaf::keylenx(image, leaf, slot);
+    let keylenx = leaf.keylenx(slot);
     if keylenx <= 8 {
-        return Verdict::Pass; // it ends here, below the cursor
+        return Ok(Verdict::Pass); // it ends here, below the cursor
     }
     if leaf::LAYER_KEYLENX <= keylenx {
-        return Verdict::Enter;
+        return Ok(Verdict::Enter);
     }
     if keylenx == leaf::KSUF_KEYLENX {
-        return suffix_verdict(mode, image, leaf, k, buf, slot);
+        return suffix_verdict(mode, leaf, k, buf, slot);
     }
-    Verdict::Fault
+    Err(Decline::Unreadable)
 }
 
 // What Start makes of a slot.
 fn judge(
     mode: StartMode,
-    image: &[u8],
-    leaf: usize,
+    leaf: LeafReader,
     k: CursorPlace,
     buf: &[u8; 256],
     slot: Slot,
-) -> Verdict
-    requires in_slot { InSlot image.now leaf slot }
+) -> Result<Verdict, Decline>
+    requires in_slot { InSlot leaf.image.now leaf.at slot }
     requires len_bound { k.offset + k.len ≤ 256 }
-    ensures { result ≡ verdict mode image.now leaf k buf.now slot }
+    ensures { result ≡ verdict mode leaf.entry.image.now leaf.entry.at k buf.now slot }
 {
     if k.has_suffix() {
-        return long_verdict(mode, image, leaf, k, buf, slot);
+        return long_verdict(mode, leaf, k, buf, slot);
     }
-    let ikey = leaf::ikey(image, leaf, slot);
-    let keylenx = leaf::keylenx(image, leaf, slot);
-    short_verdict(mode, k, ikey, keylenx as usize)
+    let ikey = leaf.ikey(slot);
+    let keylenx = leaf.keylenx(slot);
+    Ok(short_verdict(mode, k, ikey, usize::from(keylenx)))
 }
 
 // Start: the first slot that is not passed over, else past the last.
 pub fn start_position(
     mode: StartMode,
-    image: &[u8],
-    leaf: usize,
+    leaf: LeafReader,
     k: CursorPlace,
     buf: &[u8; 256],
-) -> Started
-    requires in_leaf { InLeaf image.now leaf }
+) -> Result<Started, Decline>
+    requires in_leaf { InLeaf leaf.image.now leaf.at }
     requires len_bound { k.offset + k.len ≤ 256 }
-    ensures { result ≡ start_position mode image.now leaf k buf.now }
+    ensures { result ≡ start_position mode leaf.entry.image.now leaf.entry.at k buf.now }
 {
-    let permutation = leaf::permutation(image, leaf);
+    let permutation = leaf.permutation();
     let size = permuter::size(permutation);
-    let mut i = 0;
-    while i < size {
-        let slot = permuter::get(permutation, Position(i));
-        let s = slot.0;
-        if 15 <= s {
-            return Started::Fault;
-        }
-        let says = judge(mode, image, leaf, k, buf, slot);
-        match says {
-            Verdict::Pass => {
-                i += 1;
-            }
+    for i in 0..size {
+        let slot = helper::slot_at(permutation, Position(i))?;
+        match judge(mode, leaf, k, buf, slot)? {
+            Verdict::Pass => {}
             Verdict::Stand => {
-                return Started::At(Position(i));
+                return Ok(Started::At(Position(i)));
             }
             Verdict::Enter => {
-                return Started::Enter(slot);
-            }
-            Verdict::Fault => {
-                return Started::Fault;
+                return Ok(Started::Enter(slot));
             }
         }
     }
-    Started::At(Position(i))
+    Ok(Started::At(Position(size)))
 }

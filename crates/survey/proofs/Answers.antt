@@ -1,55 +1,42 @@
 -- The tally's answers, one law for each way out of its code.
-use Rattle.std.specs.Prelude.{◌≡◌, ◌<◌}
-use Rattle.base.specs.Kit.{refl, ap, sym, ◌∙◌, List, not, ℕ, eqb, length, get_or, eqb-true, not-false, eq-eqb, ne_eqb}
+use Rattle.std.specs.Prelude.{◌≡◌, ◌<◌, None, Some, Result, Ok, Err}
+use Rattle.base.specs.Kit.{refl, List, ℕ, length, get_or}
+use Rattle.base.specs.Decline.{and_then}
+use Rattle.base.specs.declared.Decline.{Decline}
 use Rattle.layering.specs.Sieve.{row_of}
-use Rattle.base.specs.Pick.{pick}
-use Rattle.base.proofs.Choice.{pick_ind}
 use Rattle.verify.specs.Check.{check_number, check}
-use Rattle.verify.proofs.Theorem.{declined-number}
-use Rattle.verify.specs.declared.Checked.{Checked}
-use Rattle.verify.specs.declared.Checked.TheVariants as checked
-use Rattle.walk.specs.Placing.{place_fault, place}
+use Rattle.verify.specs.declared.Counts.{Counts}
+use Rattle.walk.specs.Placing.{placed_by, place, placing}
 use Rattle.scan.specs.CodeLoop.{keys_left}
-use Rattle.cursor.specs.declared.range_bound.StartMode.{StartMode}
 use Rattle.cursor.specs.declared.range_bound.StartMode.TheVariants.{Above}
 use Rattle.walk.specs.declared.scan_state.Placed.{Placed}
-use Rattle.survey.specs.declared.Tallied.TheVariants.{Counted, Declined}
+use Rattle.walk.specs.declared.scan_state.Walk.{Walk}
 use Rattle.survey.specs.Tally.{tally}
 use Rattle.survey.proofs.Counting.{row-counted}
 
-module _ (image : List ℕ) (cursor : List ℕ) (kind : ℕ) (bound : List ℕ) where
-  -- a placing has its number, in either mode
-  pub code_is : (mode : StartMode) → (place image mode cursor kind bound).code ≡ place_fault image cursor kind bound
-  unfolding place
-  code_is mode =
-      let f : ℕ = place_fault image cursor kind bound in
-      pick_ind (λ (p : Placed). p.code ≡ f) (not (eqb f 0)) (λ t. refl)
-      (λ t. sym (eqb-true f 0 (not-false (eqb f 0) t)))
+-- what a placing's decline says of its tests
+declined-by : (d : Decline) (x : Result Unit Decline) (w : Walk) → (placed_by x w).declined ≡ Some d → x ≡ Err d
+declined-by d (Ok u) w e = absurd (cc)
+declined-by d (Err b) w e = cc
 
-  module _ (r : Checked) (e : r ≡ check image) where
-    -- the check declines
-    pub check-declines : (n : ℕ) → r ≡ checked.Declined n → Declined n ≡ tally image cursor kind bound
-    unfolding tally check_number pick
-    check-declines n f = rw (← e, f, ne_eqb n 0 (declined-number image n (sym e ∙ f)))
+taken-by : (x : Result Unit Decline) (w : Walk) → (placed_by x w).declined ≡ None → x ≡ Ok tt
+taken-by (Ok u) w e = refl
+taken-by (Err b) w e = absurd (cc)
 
-    module _ (l v s : ℕ) (f : r ≡ checked.Accepted l v s) (p : Placed) (g : p ≡ place image Above cursor kind bound) where
-      -- the placing's number decides
-      by_number : tally image cursor kind bound
-          ≡ pick (not (eqb p.code 0)) (Declined p.code) (Counted (length (row_of image Above cursor kind bound)))
-      unfolding tally check_number pick
-      by_number = rw (← e, f, ← code_is Above, ← g)
+module _ (image cursor : List ℕ) (kind : ℕ) (bound : List ℕ) where
+  module _ (c : Counts) (e : Ok c ≡ check image) (p : Placed) (g : p ≡ place image Above cursor kind bound) where
+    -- the placing declines
+    pub place-declines : (d : Decline) → p.declined ≡ Some d → Err d ≡ tally image cursor kind bound
+    unfolding tally and_then place
+    place-declines d f = let h = declined-by d (placing image cursor kind bound) _ (rw g at f) in rw (← e, h) refl
 
-      -- it declines
-      pub place-declines : (p.code ≡ 0 → ⊥) → Declined p.code ≡ tally image cursor kind bound
-      unfolding pick
-      place-declines h = rw (by_number, ne_eqb p.code 0 h)
-
-      -- the walk is counted
-      pub counts : ((i : ℕ) → get_or image i 0 < 256) → ((i : ℕ) → get_or cursor i 0 < 256) → p.code ≡ 0
-          → (n : ℕ) → n ≡ keys_left p.walk image → Counted n ≡ tally image cursor kind bound
-      unfolding check_number pick
-      counts b bc z n h =
-          let w : keys_left p.walk image ≡ length (row_of image Above cursor kind bound) =
-          rw g
-          (row-counted image b (ap check_number (sym e ∙ f)) Above cursor bc kind bound (ap (λ (q : Placed). q.code) (sym g) ∙ z)) in
-          rw (by_number, eq-eqb p.code 0 z, h, w)
+    -- the walk is counted
+    pub counts : ((i : ℕ) → get_or image i 0 < 256) → ((i : ℕ) → get_or cursor i 0 < 256) → p.declined ≡ None
+        → (n : ℕ) → n ≡ keys_left p.walk image → Ok n ≡ tally image cursor kind bound
+    unfolding tally and_then place check_number
+    counts b bc z n h =
+        let taken = taken-by (placing image cursor kind bound) _ (rw g at z) in
+        let accepted : check_number (check image) ≡ 0 = rw (← e) refl in
+        let w : keys_left p.walk image ≡ length (row_of image Above cursor kind bound) =
+        rw g (row-counted image b accepted Above cursor bc kind bound (rw g at z)) in
+        rw (← e, taken, h, w) refl

@@ -1,16 +1,15 @@
 -- THE TALLY AS IT WAS, for one theorem alone (02 [6]: "The tally relied on the old meaning: it shall name mode above and give the same
 -- answers as before, proved so"). Its walk is the one that 01's short form placed.
-use Rattle.std.specs.Prelude.{◌∷◌, ◌+◌}
-use Rattle.base.specs.Kit.{not, List, [], ℕ, eqb, length}
-use Rattle.base.specs.Pick.{pick}
-use Rattle.verify.specs.Check.{check, check_number}
+use Rattle.std.specs.Prelude.{◌∷◌, ◌+◌, Option, None, Some, Result, Ok, Err}
+use Rattle.base.specs.Kit.{List, [], ℕ, length}
+use Rattle.base.specs.Decline.{and_then}
+use Rattle.base.specs.declared.Decline.{Decline}
+use Rattle.verify.specs.Check.{check}
 use Rattle.walk.specs.Placing.{place}
 use Rattle.cursor.specs.declared.range_bound.StartMode.TheVariants.{Above}
 use Rattle.walk.specs.declared.scan_state.Placed.{Placed}
 use Rattle.walk.specs.declared.scan_state.Walk.{Walk}
 use Rattle.demands.specs.Demand.{Said, hands_out, none, declines, said, steps, calls_of}
-use Rattle.survey.specs.declared.Tallied.{Tallied}
-use Rattle.survey.specs.declared.Tallied.TheVariants.{Counted, Declined}
 
 -- "A short form has no start mode and means above."
 unfoldable pub place_short01 : List ℕ → List ℕ → ℕ → List ℕ → Placed
@@ -26,10 +25,13 @@ keys_said (declines n ∷ rest) = keys_said rest
 unfoldable pub handed_out : Walk → List ℕ → ℕ
 handed_out w image = keys_said (said (steps w (calls_of image (length image))))
 
+-- What a placing's decline says, or else n.
+abbrev pub unless : Option Decline → ℕ → Result ℕ Decline
+unless None n = Ok n
+unless (Some d) n = Err d
+
 -- "Check's numbers, then 11, 12, 13. It uses the short form."
-unfoldable pub tally01 : List ℕ → List ℕ → ℕ → List ℕ → Tallied
+unfoldable pub tally01 : List ℕ → List ℕ → ℕ → List ℕ → Result ℕ Decline
 tally01 image cursor kind bound =
-    let n = check_number (check image) in
     let placed = place_short01 image cursor kind bound in
-    pick (not (eqb n 0)) (Declined n)
-    (pick (not (eqb placed.code 0)) (Declined placed.code) (Counted (handed_out placed.walk image)))
+    and_then (check image) (λ counts. unless placed.declined (handed_out placed.walk image))

@@ -6,9 +6,10 @@
 -- `open` and `next_line` (listed/src/lib.rt), `read_sheet` and `station_at` (reading/src/lib.rt), `build` (builder/src/lib.rt), whose definitions are
 -- `opened` of `read_sheet`, `StationRead`, and `built` with `built_out`, the six of punchbronze/src/lib.rt, and the bound test, `test` (cursor/src/range_bound.rt), whose
 -- definition is `tested`. None of them has a `requires`.
-use Rattle.std.specs.Prelude.{◌≡◌, ◌≤◌, ◌<◌}
+use Rattle.std.specs.Prelude.{◌≡◌, ◌≤◌, ◌<◌, None, Ok, Err}
 use Rattle.base.specs.Kit.{true, not, map, List, [], ℕ, eqb, length, get_or}
 use Rattle.base.specs.Pick.{pick}
+use Rattle.base.specs.declared.Decline.TheVariants.{WalkRange, SheetForm}
 use Rattle.key.specs.Order.{byte_order}
 use Rattle.cursor.specs.RangeBound.{side_of, is_within, contains, at_end}
 use Rattle.cursor.specs.declared.range_bound.StartMode.{StartMode}
@@ -23,8 +24,7 @@ use Rattle.layering.specs.Sieve.{past, row_of}
 use Rattle.verify.specs.Check.{check_number, check_counts, check}
 use Rattle.verify.specs.Acceptance.{tree_counts}
 use Rattle.walk.specs.Walk.{keys_of, nothing_yet}
-use Rattle.walk.specs.Placing.{place_fault, place, place_short}
-use Rattle.walk.specs.declared.scan_state.Answer.TheVariants.{Nothing}
+use Rattle.walk.specs.Placing.{placing, code_of, place, place_short}
 use Rattle.walk.specs.declared.scan_state.Walk.{Walk}
 use Rattle.scan.specs.Machine.{after_key, declined_with, answered, step}
 use Rattle.scan.specs.Ends.{ends_with}
@@ -38,7 +38,7 @@ use Rattle.sheet.specs.Sheet.{sheet}
 use Rattle.listed.specs.Listed.{listed_pairs, walk_moves, listed, AllLines}
 use Rattle.reading.specs.Form.{Sheet, text}
 use Rattle.reading.specs.Good.{Good}
-use Rattle.reading.specs.Fault.{fault, sheet as sheet_read, keys_rise, judged, read_sheet}
+use Rattle.reading.specs.Fault.{keys_rise, judged, read_sheet}
 use Rattle.building.specs.Build.{build}
 use Rattle.builder.specs.Answer.{built, built_out, built_number, built_length}
 use Rattle.built.specs.Built.{Taken, Rebuilt, Writes}
@@ -101,13 +101,13 @@ count-is-row = lives.count-is-row
 
 -- DEMAND 3: every list of steps of either form, from every placing that is taken over every accepted image.
 pub demand-3 : (image : List ℕ) → Bytes image → check_number (check image) ≡ 0 → (mode : StartMode) (cursor : List ℕ) → Bytes cursor
-    → (kind : ℕ) (bound : List ℕ) → (place image mode cursor kind bound).code ≡ 0 → (calls : List Call) → Lent image calls
+    → (kind : ℕ) (bound : List ℕ) → (place image mode cursor kind bound).declined ≡ None → (calls : List Call) → Lent image calls
     → Demand3 image mode cursor kind bound calls
 demand-3 = demands.demand-3
 
 -- The placings that are taken.
 pub is-taken : (image : List ℕ) → check_number (check image) ≡ 0 → (mode : StartMode) (cursor : List ℕ) (kind : ℕ) (bound : List ℕ)
-    → length cursor ≤ 256 → kind ≤ 2 → length bound ≤ 256 → (place image mode cursor kind bound).code ≡ 0
+    → length cursor ≤ 256 → kind ≤ 2 → length bound ≤ 256 → (place image mode cursor kind bound).declined ≡ None
 is-taken = demands.is-taken
 
 -- The row: its keys lie past the start, and the bound admits them. Two images with the same live pairs have the same row, whatever their
@@ -137,13 +137,13 @@ at_end_only = bound.at_end_only
 -- unless its count has passed the image's length (02 [13]). Over any bytes, of any walk whose buffer and stack have their lengths.
 pub ended-at_end : (w : Walk) (image : List ℕ) → length w.cursor.buf ≡ 256 → length w.stack ≡ 31 → keys_of (step w image).answer ≡ 1
     → ((step w image).walk.state ≡ after_key (ends_with w (step w image)))
-    × (ends_with w (step w image) ≡ true → w.handed.count < length image → step (step w image).walk image ≡ answered Nothing 0 (step w image).walk)
+    × (ends_with w (step w image) ≡ true → w.handed.count < length image → step (step w image).walk image ≡ answered (Ok None) 0 (step w image).walk)
 ended-at_end = ends.ended-at_end
 
 -- Over an accepted image the answers of every list of steps are those of the machine that moved on past its end, and the moves up to the first
 -- none are fewer exactly where the end is handed out.
 pub stops-at_end : (image : List ℕ) → Bytes image → check_number (check image) ≡ 0 → (mode : StartMode) (cursor : List ℕ) → Bytes cursor
-    → (kind : ℕ) (bound : List ℕ) → (place image mode cursor kind bound).code ≡ 0 → (calls : List Call) → Lent image calls
+    → (kind : ℕ) (bound : List ℕ) → (place image mode cursor kind bound).declined ≡ None → (calls : List Call) → Lent image calls
     → (let w = (place image mode cursor kind bound).walk in StopsAtEnd kind bound (steps w calls) (steps_on w calls))
 stops-at_end = at_end_lem.stops-at_end
 
@@ -154,7 +154,7 @@ step_carries = carries.step_carries
 
 -- A walk that hands out a key where its count is the image's length, or above it, is declined with 21 next.
 pub past-count : (w : Walk) (image : List ℕ) → keys_of (step w image).answer ≡ 1 → length image ≤ w.handed.count
-    → step (step w image).walk image ≡ declined_with 21 (step w image).walk
+    → step (step w image).walk image ≡ declined_with WalkRange (step w image).walk
 past-count = carries.past-count
 
 -- After every list of steps of either form from a fresh placing, over any image and any bytes that they are lent, the walk's count equals the
@@ -165,7 +165,7 @@ count-is-keys = handed.count-is-keys
 
 -- Over an accepted image: what each step of a list carries, the depth of its key being that of the layer in which the tree holds it.
 pub carried-due : (image : List ℕ) → Bytes image → check_number (check image) ≡ 0 → (mode : StartMode) (cursor : List ℕ) → Bytes cursor
-    → (kind : ℕ) (bound : List ℕ) → (place image mode cursor kind bound).code ≡ 0 → (calls : List Call) → Lent image calls
+    → (kind : ℕ) (bound : List ℕ) → (place image mode cursor kind bound).declined ≡ None → (calls : List Call) → Lent image calls
     → handed_by (steps (place image mode cursor kind bound).walk calls) ≡ due_handed image (own image calls) (row_of image mode cursor kind bound) nothing_yet
 carried-due = handed.carried-due
 
@@ -178,7 +178,7 @@ live_depths image b o = depths.live_depths image (layering.pairs-ascend image b 
 
 -- 02 [1]: up to eight bytes a placing begins by 01's own rule, over every image.
 pub placed_by_rule-01 : (image : List ℕ) (mode : StartMode) (cursor : List ℕ) (kind : ℕ) (bound : List ℕ)
-    → place_fault image cursor kind bound ≡ 0 → length cursor ≤ 8 → ByRule01 mode (place image mode cursor kind bound).walk
+    → placing image cursor kind bound ≡ Ok tt → length cursor ≤ 8 → ByRule01 mode (place image mode cursor kind bound).walk
 placed_by_rule-01 = scan.placed_by_rule-01
 
 -- 02 [6]: the short form is the placing in mode from, over every image and argument.
@@ -188,7 +188,7 @@ short-is_from = walk.short-is_from
 
 -- THE TALLY: the check's number, else the placing's; and the length of the row above the cursor where both are 0, else 0.
 pub tally-says : (image cursor : List ℕ) (kind : ℕ) (bound : List ℕ)
-    → (tally_number (tally image cursor kind bound) ≡ pick (not (eqb (check_number (check image)) 0)) (check_number (check image)) (place_fault image cursor kind bound))
+    → (tally_number (tally image cursor kind bound) ≡ pick (not (eqb (check_number (check image)) 0)) (check_number (check image)) (code_of (place image Above cursor kind bound)))
     × (tally_count (tally image cursor kind bound) ≡ pick (eqb (tally_number (tally image cursor kind bound)) 0) (length (row_of image Above cursor kind bound)) 0)
 tally-says = survey.tally-says
 
@@ -208,13 +208,13 @@ count-is-lines = counted.count-is-lines
 
 -- 02 [2]: THE READER OF SHEETS is the inverse of what a sheet is: what is read has just that text; every good sheet, read, is that sheet, or 32 where
 -- its keys do not rise; and where it says 31 no good sheet has the text.
-pub read-text : (s : List ℕ) (x : Sheet) → read_sheet s ≡ sheet_read x → (s ≡ text x) × Good x × (keys_rise x.pairs ≡ true)
+pub read-text : (s : List ℕ) (x : Sheet) → read_sheet s ≡ Ok x → (s ≡ text x) × Good x × (keys_rise x.pairs ≡ true)
 read-text s x e = let r = reading.read-text s x e in (r.text, r.good, r.rise)
 
 pub text_read : (x : Sheet) → Good x → read_sheet (text x) ≡ judged x
 text_read = reading.text_read
 
-pub no-sheet : (s : List ℕ) → read_sheet s ≡ fault 31 → (x : Sheet) → Good x → s ≡ text x → ⊥
+pub no-sheet : (s : List ℕ) → read_sheet s ≡ Err SheetForm → (x : Sheet) → Good x → s ≡ text x → ⊥
 no-sheet = reading.no-sheet
 
 -- 02 [2]: THE BUILDER. Where its number is 0 the sheet was taken, and the image of its pairs stands at the front of the output: it holds the
@@ -225,7 +225,7 @@ build_writes = answer.build_writes
 pub build-declines : (s out : List ℕ) → (built_number (built s (length out)) ≡ 0 → ⊥) → (built_length (built s (length out)) ≡ 0) × (built_out s out ≡ out)
 build-declines = answer.build-declines
 
-pub taken-sheet : (s : List ℕ) (x : Sheet) → read_sheet s ≡ sheet_read x → length (build x.pairs) ≤ 16777216 → Taken s x
+pub taken-sheet : (s : List ℕ) (x : Sheet) → read_sheet s ≡ Ok x → length (build x.pairs) ≤ 16777216 → Taken s x
 taken-sheet = built-image.taken-sheet
 
 -- For every accepted image: the image built from its live pairs, where it fits, holds the same pairs.

@@ -1,14 +1,15 @@
 -- What the inner answers tell, and that the check's numbers stay small: a subtree keeps `Bounded` for every number of slots
 -- ahead, a slot adds one to it, and the end of a leaf takes all its slots back. By recursion as the check's own.
-use Rattle.std.specs.Prelude.{◌≡◌, ◌+◌, ◌*◌, ◌-◌, ◌<◌, ◌≤◌}
+use Rattle.std.specs.Prelude.{◌≡◌, ◌+◌, ◌*◌, ◌-◌, ◌<◌, ◌≤◌, Result, Ok, Err, IfOk}
 use Rattle.base.specs.Kit.{Bool, true, List, refl, ℕ, zero, suc, suc-mul, sub-one, arith, eqb, length, not-false, leb-true, eqb-true, eqb-false}
+use Rattle.base.specs.Decline.{and_then}
 use Rattle.base.proofs.Choice.{pick_ind, one_at_most}
 use Rattle.node.specs.Version.{at_rest}
 use Rattle.node.specs.Permuter.{size_of, slot_at}
 use Rattle.node.specs.Layout.{version_at, permutation_at, live_at, next_at, nkeys_at}
 use Rattle.node.proofs.PermuterLaws.{size_fits}
-use Rattle.verify.specs.Types.{Suffix, Progress, RecordCheck, Leaf, Internode, RecordCheckFault as Fault, SlotCheck, Layer, Passed, SlotCheckFault as SlotFault}
-use Rattle.verify.specs.Check.{stop, and_then, each, demand, pass_leaf, pass_internode, enter_layer, leave_layer, separators_from, slot_c, node_c}
+use Rattle.verify.specs.Types.{Decline, RecordPlace, LeafChain, Suffix, Progress, RecordKind, Leaf, Internode, SlotCheck, Layer, Passed}
+use Rattle.verify.specs.Check.{Checked, each, demand, pass_leaf, pass_internode, enter_layer, leave_layer, separators_from, slot_c, node_c}
 use Rattle.verify.specs.CodeCases.{after_record, after_slot, sub_c, leaf_check, internode_check, record_check, LeafTold, suffix_check, kind_check, slot_check, record_end, leaf_end, layer_end, Bounded, Sized}
 use Rattle.verify.proofs.Going.{says-leb, says-eqb, says-and, says_self}
 use Rattle.verify.proofs.Fields.{layer-kind}
@@ -22,13 +23,13 @@ pub record InternodeTold (image : List ℕ) (path at lo hi : ℕ) : Type 0 where
   pub some : path ≡ 0 → ⊥
   pub separated : separators_from image at lo hi 0 (nkeys_at image at) ≡ true
 
-unfoldable pub RecordTold : List ℕ → ℕ → ℕ → ℕ → ℕ → RecordCheck → Type 0
-RecordTold image path at lo hi Leaf = LeafTold image at
-RecordTold image path at lo hi Internode = InternodeTold image path at lo hi
-RecordTold image path at lo hi (Fault n) = Unit {0}
+unfoldable pub RecordTold : List ℕ → ℕ → ℕ → ℕ → ℕ → Result RecordKind Decline → Type 0
+RecordTold image path at lo hi (Ok Leaf) = LeafTold image at
+RecordTold image path at lo hi (Ok Internode) = InternodeTold image path at lo hi
+RecordTold image path at lo hi (Err d) = Unit {0}
 
 module _ (image : List ℕ) (path at lo hi : ℕ) (p : Progress) where
-  abbrev Told : RecordCheck → Type 0
+  abbrev Told : Result RecordKind Decline → Type 0
   Told = RecordTold image path at lo hi
 
   pub record_told : RecordTold image path at lo hi (record_check image path at lo hi p)
@@ -47,40 +48,41 @@ module _ (image : List ℕ) (path at lo hi : ℕ) (p : Progress) where
       })))))
 
 -- PROGRESS stays within its bounds, unless a fault ends it.
-abbrev pub Kept : ℕ → Progress → Type 0
-Kept a p = p.fault ≡ 0 → Bounded a p
+abbrev pub Kept : ℕ → Checked → Type 0
+Kept a x = IfOk x (Bounded a)
 
 pub weaker : (a b : ℕ) (p : Progress) → a ≤ b → Bounded a p → Bounded b p
 weaker a b p h k = record { within = k.within; counted = omega (arith, k.counted); lively = k.lively }
 
-stop-kept : (a n : ℕ) → Kept a (stop n)
-stop-kept a n e = record { within = omega arith; counted = omega arith; lively = omega arith }
+looser : (a b : ℕ) (x : Checked) → a ≤ b → Kept a x → Kept b x
+looser a b (Ok p) h k = weaker a b p h k
+looser a b (Err d) h k = tt
 
-pub demand-kept : (a n : ℕ) (t : Bool) (p : Progress) → (t ≡ true → Kept a p) → Kept a (demand n t p)
+pub demand-kept : (a : ℕ) (d : Decline) (t : Bool) (p : Progress) → (t ≡ true → Bounded a p) → Kept a (demand d t p)
 unfolding demand
-demand-kept a n t p h = pick_ind (Kept a) t h (λ f. stop-kept a n)
+demand-kept a d t p h = pick_ind (Kept a) t h (λ f. tt)
 
-pub then-kept : (a b : ℕ) (p : Progress) (f : Progress → Progress) → Kept a p → (Bounded a p → Kept b (f p)) → Kept b (and_then p f)
+pub then-kept : (a b : ℕ) (x : Checked) (f : Progress → Checked) → Kept a x → ((p : Progress) → Bounded a p → Kept b (f p)) → Kept b (and_then x f)
 unfolding and_then
-then-kept a b p f h g =
-    pick_ind (Kept b) (eqb p.fault 0) (λ t. g (h (eqb-true _ _ t))) (λ t e. absurd (eqb-false _ _ t e))
+then-kept a b (Ok p) f h g = g p h
+then-kept a b (Err d) f h g = tt
 
 -- A part of the check adds at most k slots to those ahead.
-abbrev pub Adds : ℕ → (Progress → Progress) → Type 0
+abbrev pub Adds : ℕ → (Progress → Checked) → Type 0
 Adds k f = (a : ℕ) (p : Progress) → Bounded a p → Kept (a + k) (f p)
 
-pub each_adds : (k : ℕ) (f : ℕ → Progress → Progress) → ((i : ℕ) → Adds k (f i)) → (n i : ℕ) → Adds (n * k) (each f i n)
+pub each_adds : (k : ℕ) (f : ℕ → Progress → Checked) → ((i : ℕ) → Adds k (f i)) → (n i : ℕ) → Adds (n * k) (each f i n)
 unfolding each
-each_adds k f h zero i a p b = λ e. weaker a _ p (omega arith) b
+each_adds k f h zero i a p b = weaker a _ p (omega arith) b
 each_adds k f h (suc n) i a p b =
     then-kept (a + k) _ (f i p) _ (h i a p b)
-    (λ c e. weaker (a + k + n * k) _ _ (omega (arith, suc-mul n k)) (each_adds k f h n (i + 1) (a + k) (f i p) c e))
+    (λ q c. looser (a + k + n * k) _ _ (omega (arith, suc-mul n k)) (each_adds k f h n (i + 1) (a + k) q c))
 
 -- SLOTS
-unfoldable pub SlotTold : ℕ → ℕ → SlotCheck → Type 0
-SlotTold depth a (Layer root) = depth < 31
-SlotTold depth a (Passed q) = Bounded (a + 1) q
-SlotTold depth a (SlotFault n) = n ≡ 0 → ⊥
+unfoldable pub SlotTold : ℕ → ℕ → Result SlotCheck Decline → Type 0
+SlotTold depth a (Ok (Layer root)) = depth < 31
+SlotTold depth a (Ok (Passed q)) = Bounded (a + 1) q
+SlotTold depth a (Err d) = Unit {0}
 
 module _ (image : List ℕ) (sized : Sized image) (depth at : ℕ) (inside : at + 432 ≤ length image) (lo hi : ℕ) where
   suffix_told : (s : Suffix) (live : Bool) (a : ℕ) (p : Progress) → Bounded a p → SlotTold depth a (suffix_check at s live p)
@@ -94,40 +96,40 @@ module _ (image : List ℕ) (sized : Sized image) (depth at : ℕ) (inside : at 
         counted = omega (arith, b.counted);
         lively = omega (arith, b.lively, one_at_most live);
       })
-      (λ f e. omega arith)
+      (λ f. tt)
 
   pub slot_told : (i a : ℕ) (p : Progress) → Bounded a p → SlotTold depth a (slot_check image depth at lo hi i p)
   unfolding slot_check kind_check SlotTold
   slot_told i a p b =
       let T = SlotTold depth a in
-      pick_ind T _ (λ t e. omega arith) (λ f. pick_ind T _ (λ t e. omega arith) (λ fitting. pick_ind T _ (λ t e. omega arith)
+      pick_ind T _ (λ t. tt) (λ f. pick_ind T _ (λ t. tt) (λ fitting. pick_ind T _ (λ t. tt)
       (λ f. pick_ind T _ (λ big. layer-kind depth _ (leb-true 128 _ big) (not-false _ fitting))
       (λ f. pick_ind T _ (λ t. suffix_told _ _ a p b)
       (λ f.
       let live = live_at image at (slot_at (permutation_at image at) (record { 0 = i })) in
       record { within = omega (arith, b.within); counted = omega (arith, b.counted); lively = omega (arith, b.lively, one_at_most live) })))))
 
-  pub slot_adds : (sub : ℕ → Progress → Progress) → ((root : ℕ) → Adds 0 (sub root)) → (i : ℕ) → Adds 1 (slot_c sub image depth at lo hi i)
+  pub slot_adds : (sub : ℕ → Progress → Checked) → ((root : ℕ) → Adds 0 (sub root)) → (i : ℕ) → Adds 1 (slot_c sub image depth at lo hi i)
   unfolding after_slot SlotTold leave_layer
   slot_adds sub h i a p b = rw (slot_is sub image depth at lo hi i p) (go (slot_check image depth at lo hi i p) (slot_told i a p b))
     where
-      go : (r : SlotCheck) → SlotTold depth a r → Kept (a + 1) (after_slot r sub p)
-      go (Layer root) t =
+      go : (r : Result SlotCheck Decline) → SlotTold depth a r → Kept (a + 1) (after_slot r sub p)
+      go (Ok (Layer root)) t =
           then-kept (a + 1 + 0) (a + 1) _ _ (h root (a + 1) (enter_layer p) (record { within = b.within; counted = omega (arith, b.counted); lively = b.lively }))
-          (λ c e. record { within = c.within; counted = omega (arith, c.counted); lively = c.lively })
-      go (Passed q) t = λ e. t
-      go (SlotFault n) t = stop-kept (a + 1) n
+          (λ q c. record { within = c.within; counted = omega (arith, c.counted); lively = c.lively })
+      go (Ok (Passed q)) t = t
+      go (Err d) t = tt
 
 -- RECORDS' ENDS: a record starts at the place reached, and lies before the trailer.
 end_kept : {image : List ℕ} → Sized image → (a at size : ℕ) (q r : Progress) → r.place ≡ q.place + size → at + size + 32 ≤ length image
     → r.counts.leaves + r.counts.value_slots + r.counts.sub_layers ≤ q.place + size + a
-    → r.live_slots ≤ r.counts.value_slots → Kept a (demand 3 (eqb at q.place) r)
+    → r.live_slots ≤ r.counts.value_slots → Kept a (demand RecordPlace (eqb at q.place) r)
 end_kept sized a at size q r e h c l =
-    demand-kept a 3 (eqb at q.place) r
-    (λ t f. let g : at ≡ q.place = eqb-true _ _ t in record { within = omega (arith, sized.short); counted = omega arith; lively = l })
+    demand-kept a RecordPlace (eqb at q.place) r
+    (λ t. let g : at ≡ q.place = eqb-true _ _ t in record { within = omega (arith, sized.short); counted = omega arith; lively = l })
 
 -- SUBTREES
-module _ (image : List ℕ) (sized : Sized image) (sub : ℕ → Progress → Progress) (subs : (root : ℕ) → Adds 0 (sub root)) (depth : ℕ) where
+module _ (image : List ℕ) (sized : Sized image) (sub : ℕ → Progress → Checked) (subs : (root : ℕ) → Adds 0 (sub root)) (depth : ℕ) where
   record_adds : (path at lo hi : ℕ) → ((path ≡ 0 → ⊥) → (i : ℕ) → Adds 0 (child_c sub image depth at lo hi (path - 1) i))
       → Adds 0 (node_c sub image depth path at lo hi)
   unfolding after_record RecordTold record_end leaf_end pass_leaf pass_internode
@@ -140,21 +142,21 @@ module _ (image : List ℕ) (sized : Sized image) (sub : ℕ → Progress → Pr
       count : ℕ
       count = nkeys_at image at + 1
 
-      slots : Progress
+      slots : Checked
       slots = each (slot_c sub image depth at lo hi) 0 size p
 
-      children : Progress
+      children : Checked
       children = each (child_c sub image depth at lo hi (path - 1)) 0 count p
 
-      go : (r : RecordCheck) → RecordTold image path at lo hi r → Kept (a + 0) (after_record r (leaf_parts sub image depth at lo hi p) (inner_parts sub image depth at lo hi (path - 1) p))
-      go Leaf t =
+      go : (r : Result RecordKind Decline) → RecordTold image path at lo hi r → Kept (a + 0) (after_record r (leaf_parts sub image depth at lo hi p) (inner_parts sub image depth at lo hi (path - 1) p))
+      go (Ok Leaf) t =
           then-kept (a + size * 1) (a + 0) slots (leaf_end image at)
           (each_adds 1 _ (slot_adds image sized depth at t.before lo hi sub subs) size 0 a p b)
-          (λ c. end_kept sized (a + 0) at 400 slots (pass_leaf (next_at image at) slots) refl (omega (arith, t.before)) (omega (arith, c.counted, size_fits (permutation_at image at))) c.lively)
-      go Internode t =
+          (λ q c. end_kept sized (a + 0) at 400 q (pass_leaf (next_at image at) q) refl (omega (arith, t.before)) (omega (arith, c.counted, size_fits (permutation_at image at))) c.lively)
+      go (Ok Internode) t =
           then-kept (a + count * 0) (a + 0) children (record_end at 256) (each_adds 0 _ (kids t.some) count 0 a p b)
-          (λ c. end_kept sized (a + 0) at 256 children (pass_internode children) refl (omega (arith, t.before)) (omega (arith, c.counted)) c.lively)
-      go (Fault n) t = stop-kept (a + 0) n
+          (λ q c. end_kept sized (a + 0) at 256 q (pass_internode q) refl (omega (arith, t.before)) (omega (arith, c.counted)) c.lively)
+      go (Err d) t = tt
 
   pub node_adds : (path at lo hi : ℕ) → Adds 0 (node_c sub image depth path at lo hi)
   node_adds zero at lo hi = record_adds zero at lo hi (λ z. absurd (z refl))
@@ -163,8 +165,8 @@ module _ (image : List ℕ) (sized : Sized image) (sub : ℕ → Progress → Pr
 -- LAYERS
 pub sub_adds : (image : List ℕ) → Sized image → (below root : ℕ) → Adds 0 (sub_c image below root)
 unfolding sub_c layer_end
-sub_adds image sized zero root a p b = stop-kept (a + 0) 7
+sub_adds image sized zero root a p b = tt
 sub_adds image sized (suc below) root a p b =
     rw (layer-is image below root p)
     (then-kept (a + 0) (a + 0) _ _ (node_adds image sized (sub_c image below) (sub_adds image sized below) (31 - below) 12 root 0 _ a p b)
-    (λ c. demand-kept (a + 0) 9 _ _ (λ t e. c)))
+    (λ q c. demand-kept (a + 0) LeafChain _ q (λ t. c)))

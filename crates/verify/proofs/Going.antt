@@ -1,11 +1,13 @@
 -- What the check's combinators come to, in both directions at once. `Says t P`: the test t is true exactly where P holds.
 -- `Runs x S q`: x ends without a fault only where S holds, and where S holds it comes to q.
-use Rattle.std.specs.Prelude.{◌&&◌, ◌||◌, ◌⊎◌, ◌≡◌, ◌≤◌, ◌<◌}
-use Rattle.base.specs.Kit.{Bool, true, not, false≢true, and-eq-true_iff, or-true, inl, inr, ⊎_elim, refl, sym, ◌∙◌, ℕ, suc, arith, leb, ltb, eqb, ltb-true, leb-true, eqb-true, eqb-false, lt-ltb, le-leb, eq-eqb, not-true}
+use Rattle.std.specs.Prelude.{◌&&◌, ◌||◌, ◌⊎◌, ◌≡◌, ◌≤◌, ◌<◌, Ok, Err}
+use Rattle.base.specs.Kit.{Bool, true, not, false≢true, and-eq-true_iff, or-true, inl, inr, ⊎_elim, refl, sym, ◌∙◌, ℕ, leb, ltb, eqb, ltb-true, leb-true, eqb-true, lt-ltb, le-leb, eq-eqb, not-true}
+use Rattle.base.specs.Decline.{and_then}
 use Rattle.base.specs.Pick.{pick}
 use Rattle.base.proofs.Choice.{by_test}
-use Rattle.verify.specs.Types.{Progress}
-use Rattle.verify.specs.Check.{stop, and_then, demand}
+use Rattle.base.proofs.Declines.{by_answer}
+use Rattle.verify.specs.Types.{Decline, Progress}
+use Rattle.verify.specs.Check.{Checked, demand}
 
 -- TESTS
 pub record Says (t : Bool) (P : Type 0) : Type 0 where
@@ -53,50 +55,47 @@ same_test {s} {t} a b =
     (λ e. by_test t (λ f. absurd (false≢true (sym e ∙ a.passes (b.holds f)))) (λ f. e ∙ sym f))
 
 -- STEPS
-pub record Runs (x : Progress) (S : Type 0) (q : Progress) : Type 0 where
-  pub only : x.fault ≡ 0 → S
-  pub comes : S → x ≡ q
+pub record Runs (x : Checked) (S : Type 0) (q : Progress) : Type 0 where
+  pub only : (p : Progress) → x ≡ Ok p → S
+  pub comes : S → x ≡ Ok q
 
-pub runs_as : {x q : Progress} {S T : Type 0} → (S → T) → (T → S) → Runs x S q → Runs x T q
-runs_as f g r = record { only = λ e. f (r.only e); comes = λ h. r.comes (g h) }
+pub runs_as : {x : Checked} {q : Progress} {S T : Type 0} → (S → T) → (T → S) → Runs x S q → Runs x T q
+runs_as f g r = record { only = λ p e. f (r.only p e); comes = λ h. r.comes (g h) }
 
-pub runs_to : {x q r : Progress} {S : Type 0} → q ≡ r → Runs x S q → Runs x S r
-runs_to e a = record { only = a.only; comes = λ h. a.comes h ∙ e }
+pub runs_to : {x : Checked} {q r : Progress} {S : Type 0} → q ≡ r → Runs x S q → Runs x S r
+runs_to e a = rw (← e) a
 
 -- an end that cannot be reached
-pub runs_never : {S : Type 0} (n : ℕ) (q : Progress) → (S → ⊥) → Runs (stop (suc n)) S q
-runs_never n q bad = record { only = λ e. absurd (omega arith); comes = λ h. absurd (bad h) }
+pub runs_never : {S : Type 0} (d : Decline) (q : Progress) → (S → ⊥) → Runs (Err d) S q
+runs_never d q bad = record { only = λ p e. absurd (cc); comes = λ h. absurd (bad h) }
 
 -- nothing to do
-pub runs_here : (p : Progress) → Runs p (Unit {0}) p
-runs_here p = record { only = λ e. tt; comes = λ h. refl }
+pub runs_here : (p : Progress) → Runs (Ok p) (Unit {0}) p
+runs_here p = record { only = λ q e. tt; comes = λ h. refl }
 
--- a test with the number of its fault, then what follows
-pub runs_test : {t : Bool} {P S : Type 0} {x q : Progress} (n : ℕ) → Says t P → (P → Runs x S q)
-    → Runs (pick (not t) (stop (suc n)) x) (P × S) q
+-- a test with its fault, then what follows
+pub runs_test : {t : Bool} {P S : Type 0} {x : Checked} {q : Progress} (d : Decline) → Says t P → (P → Runs x S q)
+    → Runs (pick (not t) (Err d) x) (P × S) q
 unfolding pick
-runs_test {t} n s r = record {
-  only = λ h. by_test t (λ e. (s.holds e, (r (s.holds e)).only (rw e at h))) (λ e. absurd (omega (arith, rw e at h)));
+runs_test {t} d s r = record {
+  only = λ p h. by_test t (λ e. (s.holds e, (r (s.holds e)).only p (rw e at h))) (λ e. absurd (let f = rw e at h in cc));
   comes = λ h. rw (s.passes h.0) ((r h.0).comes h.1);
 }
 
-pub runs-demand : {t : Bool} {P : Type 0} (n : ℕ) (x : Progress) → Says t P → Runs (demand (suc n) t x) P x
+pub runs-demand : {t : Bool} {P : Type 0} (d : Decline) (x : Progress) → Says t P → Runs (demand d t x) P x
 unfolding demand pick
-runs-demand {t} n x s = record {
-  only = λ h. by_test t s.holds (λ e. absurd (omega (arith, rw e at h)));
+runs-demand {t} d x s = record {
+  only = λ p h. by_test t s.holds (λ e. absurd (let f = rw e at h in cc));
   comes = λ h. rw (s.passes h) refl;
 }
 
 -- one thing, then the next
-pub runs_then : {x q r : Progress} {S T : Type 0} (f : Progress → Progress) → Runs x S q → q.fault ≡ 0 → (S → Runs (f q) T r)
+pub runs_then : {x : Checked} {q r : Progress} {S T : Type 0} (f : Progress → Checked) → Runs x S q → (S → Runs (f q) T r)
     → Runs (and_then x f) (S × T) r
-unfolding and_then pick
-runs_then {x} {q} {r} {S} {T} f a ok b = record {
-  only = λ h. by_test (eqb x.fault 0)
-      (λ e. let s : S = a.only (eqb-true _ _ e) in (s, (b s).only (rw (e, a.comes s) at h)))
-      (λ e. absurd (eqb-false _ _ e (rw e at h)));
-  comes = λ h. ahead (a.comes h.0) ∙ (b h.0).comes h.1;
+unfolding and_then
+runs_then {x} {q} {r} {S} {T} f a b = record {
+  only = λ p h. by_answer x
+      (λ y e. let s : S = a.only y e in (s, (b s).only p (rw (a.comes s) at h)))
+      (λ d e. absurd (let g = rw e at h in cc));
+  comes = λ h. rw (a.comes h.0) ((b h.0).comes h.1);
 }
-  where
-    ahead : x ≡ q → pick (eqb x.fault 0) (f x) x ≡ f q
-    ahead e = rw e (rw (eq-eqb q.fault 0 ok) refl)

@@ -1,5 +1,5 @@
 -- The check of a leaf ends without a fault exactly where the rules hold of it: its own tests around the check of its slots.
-use Rattle.std.specs.Prelude.{◌≡◌, ◌+◌, ◌≤◌}
+use Rattle.std.specs.Prelude.{◌≡◌, ◌+◌, ◌≤◌, Err}
 use Rattle.base.specs.Kit.{true, not, List, refl, ℕ, arith, eqb, length}
 use Rattle.base.specs.Pick.{pick}
 use Rattle.node.specs.Version.{at_rest}
@@ -8,8 +8,8 @@ use Rattle.node.specs.Layout.{version_at, permutation_at, next_at}
 use Rattle.layering.specs.Tree.{Node, Slots, slots_from, leaf_head, leaf_at}
 use Rattle.layering.specs.Accepted.{end_n, end_s, InPostOrderN, ShortPathsN, AscendN, InRangeN, first_n, LinkedN, IsPermutation, FieldsN}
 use Rattle.layering.proofs.Size.{leaves_fit_s}
-use Rattle.verify.specs.Types.{Progress}
-use Rattle.verify.specs.Check.{stop, demand, reachable, in_order, pass_leaf, leaf_c}
+use Rattle.verify.specs.Types.{RecordPlace, RecordVersion, LeafPermutation, LeafChain, Progress}
+use Rattle.verify.specs.Check.{Checked, demand, reachable, in_order, pass_leaf, leaf_c}
 use Rattle.verify.proofs.Going.{says-eqb, says_self, runs_as, runs_to, runs_test, runs-demand, runs_then}
 use Rattle.verify.proofs.Records.{Reachable, says-reachable, says-expected, says-permutes}
 use Rattle.verify.proofs.Places.{last_n, within, aligned_s}
@@ -29,7 +29,7 @@ leaf_reached image tree depth at lo hi size p b r h =
       before = omega (arith, e, h.before);
     }
 
-module _ (image : List ℕ) (sub : ℕ → Progress → Progress) (tree : ℕ → Node) (depth at lo hi : ℕ)
+module _ (image : List ℕ) (sub : ℕ → Progress → Checked) (tree : ℕ → Node) (depth at lo hi : ℕ)
     (layers : Layers image (depth + 1) sub tree) where
   abbrev size : ℕ
   size = size_of (permutation_at image at)
@@ -44,18 +44,18 @@ module _ (image : List ℕ) (sub : ℕ → Progress → Progress) (tree : ℕ �
       × (IsPermutation (permutation_at image at) × (SlotsOk image depth at lo hi 0 size p slots × (at ≡ end_s p.place slots)))))
 
   pub leaf-run : (p : Progress) → Underway image p
-      → Checks image depth lo hi (pick (not (reachable image 400 at p)) (stop 3)
-      (pick (not (at_rest (version_at image at))) (stop 4) (leaf_c sub image depth at lo hi p))) p (leaf_at tree image at)
+      → Checks image depth lo hi (pick (not (reachable image 400 at p)) (Err RecordPlace)
+      (pick (not (at_rest (version_at image at))) (Err RecordVersion) (leaf_c sub image depth at lo hi p))) p (leaf_at tree image at)
   unfolding leaf_at leaf_head leaf_c after_s InPostOrderN end_n last_n first_n ShortPathsN AscendN InRangeN LinkedN FieldsN in_order SoundN SoundS
   leaf-run p r =
       runs_to (after-leaf p (leaf_head image at) slots) (runs_as to from
-      (runs_test 2 (says-reachable image 400 at p) (λ a.
-      runs_test 3 (says_self (at_rest (version_at image at))) (λ b.
-      runs_test 8 (says-expected at p) (λ c.
-      runs_test 4 (says-permutes (permutation_at image at)) (λ d.
-      runs_then (λ q. demand 3 (eqb at q.place) (pass_leaf (next_at image at) q))
-      (slots-run image sub tree depth at lo hi layers (omega (arith, a.before)) size 0 p r) r.going (λ e.
-      runs-demand 2 (pass_leaf (next_at image at) (after_s p slots)) (says-eqb at (end_s p.place slots)))))))))
+      (runs_test RecordPlace (says-reachable image 400 at p) (λ a.
+      runs_test RecordVersion (says_self (at_rest (version_at image at))) (λ b.
+      runs_test LeafChain (says-expected at p) (λ c.
+      runs_test LeafPermutation (says-permutes (permutation_at image at)) (λ d.
+      runs_then (λ q. demand RecordPlace (eqb at q.place) (pass_leaf (next_at image at) q))
+      (slots-run image sub tree depth at lo hi layers (omega (arith, a.before)) size 0 p r) (λ e.
+      runs-demand RecordPlace (pass_leaf (next_at image at) (after_s p slots)) (says-eqb at (end_s p.place slots)))))))))
     where
       to : Parts p → SoundN image depth lo hi p (leaf_at tree image at)
       to (reach, (rest, (first, (permutes, (s, e))))) =

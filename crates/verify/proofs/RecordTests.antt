@@ -1,11 +1,11 @@
 -- Laws of a record's tests, which the proofs of its functions cite: by the version that the code has read; where a record may lie at the
 -- latest; the ends of an internode's children; and the tests that go by a loop, one turn at a time.
-use Rattle.std.specs.Prelude.{◌≡◌, ◌&&◌, ◌+◌, ◌-◌, ◌<◌, ◌≤◌}
-use Rattle.base.specs.Kit.{refl, sym, ◌∙◌, ap, Bool, true, false, not, and-true, and-false, and_assoc, Bool·not-not, List, ℕ, zero, suc, leb, eqb, sub-one, add-one, arith, length, get_or, set, replicate, length-set, length-replicate, get_or-replicate, lt-ltb, le-ltb, eqb-true, eqb-false, add-zero, zero-add, get_or-set_same, get_or-set_other}
+use Rattle.std.specs.Prelude.{◌≡◌, ◌&&◌, ◌⊎◌, ◌+◌, ◌-◌, ◌<◌, ◌≤◌, Result, Ok, Err}
+use Rattle.base.specs.Kit.{⊎_elim, refl, sym, ◌∙◌, ap, Bool, true, false, not, and-true, and-false, and_assoc, Bool·not-not, List, ℕ, zero, suc, leb, eqb, sub-one, add-one, arith, length, get_or, set, replicate, length-set, length-replicate, get_or-replicate, lt-ltb, le-ltb, eqb-true, eqb-false, add-zero, zero-add, get_or-set_same, get_or-set_other}
 use Rattle.base.specs.Pick.{pick}
 use Rattle.node.specs.Version.{at_rest}
 use Rattle.node.specs.Layout.{version_at, permutation_at, nkeys_at, separator_at}
-use Rattle.verify.specs.Types.{Progress, RecordCheck, Leaf, Internode, RecordCheckFault as Fault, Slot}
+use Rattle.verify.specs.Types.{Decline, RecordPlace, RecordVersion, LeafPermutation, SlotOrder, LeafChain, Progress, RecordKind, Leaf, Internode, Slot}
 use Rattle.verify.specs.Check.{reachable, expected, permutes, separators_from, low_end, high_end, fresh_from, permutes_from}
 use Rattle.verify.specs.CodeCases.{leaf_check, internode_check}
 use Rattle.verify.proofs.Going.{says-leb, says_as, same_test}
@@ -20,17 +20,17 @@ in_turn true true x y = refl
 in_turn true false x y = refl
 in_turn false b x y = refl
 
-module _ (image : List ℕ) (at version : ℕ) (v : version ≡ version_at image at) (z : RecordCheck) where
+module _ (image : List ℕ) (at version : ℕ) (v : version ≡ version_at image at) (z : Result RecordKind Decline) where
   pub leaf_read : (p : Progress)
-      → z ≡ pick (not (reachable image 400 at p)) (Fault 3) (pick (not (at_rest version)) (Fault 4)
-      (pick (not (expected at p)) (Fault 9) (pick (not (permutes (permutation_at image at))) (Fault 5) Leaf)))
+      → z ≡ pick (not (reachable image 400 at p)) (Err RecordPlace) (pick (not (at_rest version)) (Err RecordVersion)
+      (pick (not (expected at p)) (Err LeafChain) (pick (not (permutes (permutation_at image at))) (Err LeafPermutation) (Ok Leaf))))
       → z ≡ leaf_check image at p
   unfolding leaf_check
   leaf_read p h = rw (← v) h
 
   pub internode_read : (path lo hi : ℕ)
-      → z ≡ pick (not (at_rest version)) (Fault 4) (pick (leb (nkeys_at image at) 15)
-      (pick (eqb path 0) (Fault 4) (pick (not (separators_from image at lo hi 0 (nkeys_at image at))) (Fault 8) Internode)) (Fault 4))
+      → z ≡ pick (not (at_rest version)) (Err RecordVersion) (pick (leb (nkeys_at image at) 15)
+      (pick (eqb path 0) (Err RecordVersion) (pick (not (separators_from image at lo hi 0 (nkeys_at image at))) (Err SlotOrder) (Ok Internode))) (Err RecordVersion))
       → z ≡ internode_check image path at lo hi
   unfolding internode_check
   internode_read path lo hi h = rw (← v, in_turn) h
@@ -121,13 +121,16 @@ module _ (permutation n i : ℕ) (w : Bool) (same : permutes_from permutation i 
 -- SEPARATORS: those from i on ascend, from above `low` up to `top`.
 module _ (image : List ℕ) (at low top n i : ℕ) (w : Bool) (same : separators_from image at low (top + 1) i (n - i) ≡ w) where
   module _ (k : ℕ) (e : k ≡ separator_at image at i) (h : i < n) where
-    pub not_above : k ≤ low → false ≡ w
+    not_above : k ≤ low → false ≡ w
     unfolding separators_from
     not_above q = rw (left-more n i h, ← e, le-ltb low k q) at same
 
-    pub not-below : low < k → top < k → false ≡ w
+    not-below : low < k → top < k → false ≡ w
     unfolding separators_from
     not-below l q = rw (left-more n i h, ← e, lt-ltb low k l, le-ltb k (top + 1) (omega arith)) at same
+
+    pub outside : (k ≤ low) ⊎ ((low < k) × (top < k)) → false ≡ w
+    outside = ⊎_elim not_above (λ h. not-below h.0 h.1)
 
     pub between : low < k → k ≤ top → separators_from image at k (top + 1) (i + 1) (n - (i + 1)) ≡ w
     unfolding separators_from

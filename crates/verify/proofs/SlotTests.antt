@@ -1,11 +1,11 @@
 -- Laws of a slot's tests, for the numbers that the code has read: zero bytes by two shifts, a suffix's length, the slot
 -- before.
-use Rattle.std.specs.Prelude.{◌≡◌, ◌&&◌, ◌+◌, ◌*◌, ◌/◌, ◌%◌, ◌-◌, ◌^◌, ◌<◌, ◌≤◌}
-use Rattle.base.specs.Kit.{refl, ◌∙◌, Bool, false, not, List, ℕ, zero, suc, pow-suc, mod-eq_of_lt, div-add-mod', sub-one, arith, leb, ltb, eqb, pow-add, lt-ltb, le-leb, lt-leb, eq-eqb, ne_eqb}
+use Rattle.std.specs.Prelude.{◌≡◌, ◌&&◌, ◌+◌, ◌*◌, ◌/◌, ◌%◌, ◌-◌, ◌^◌, ◌<◌, ◌≤◌, Result, Ok, Err}
+use Rattle.base.specs.Kit.{refl, ◌∙◌, Bool, false, not, List, ℕ, zero, suc, pow-suc, mod-eq_of_lt, div-add-mod', sub-one, arith, leb, ltb, eqb, pow-add, le-ltb, lt-ltb, le-leb, lt-leb, eq-eqb}
 use Rattle.node.specs.Permuter.{slot_at}
 use Rattle.base.specs.Pick.{pick}
 use Rattle.node.specs.Layout.{InSlot, permutation_at, ikey_at, keylenx_at, suffix_at}
-use Rattle.verify.specs.Types.{Slot, Suffix, Progress, SlotCheck, Passed, SlotCheckFault as Fault}
+use Rattle.verify.specs.Types.{Decline, RecordPlace, SlotLength, SlotKey, SlotOrder, Slot, Suffix, Progress, SlotCheck, Passed}
 use Rattle.layering.specs.Tree.{fields_at}
 use Rattle.layering.specs.Accepted.{IsPermutation}
 use Rattle.verify.specs.Check.{pass_value, before, in_order, listed, fits, in_range}
@@ -34,33 +34,30 @@ module _ (depth x k : ℕ) (z : k ≤ 0) where
   none : k ≡ 0
   none = omega arith
 
-  pub none_below : (depth ≡ 0 → ⊥) → false ≡ listed depth (keyed x k 0)
-  unfolding listed pick
-  none_below d = rw (none, ne_eqb depth 0 d)
-
   pub none-at_root : depth ≡ 0 → x < 2 ^ 64 → eqb x 0 ≡ listed depth (keyed x k 0)
   unfolding listed pick
   none-at_root d h = let l : x < 256 ^ 8 = omega arith in rw (none, d, mod-eq_of_lt l)
 
 -- number 7 of a suffix f that the definition reads as g: its length is tested by a difference, not a sum
 module _ (depth : ℕ) (f g : Suffix) (e : f ≡ g) where
-  pub suffix_empty : f.len ≡ 0 → false ≡ (ltb 0 g.len && leb (8 * depth + 8 + g.len) 256)
-  suffix_empty h = rw (← e, h)
+  pub suffix_empty : f.len ≤ 0 → false ≡ (ltb 0 g.len && leb (8 * depth + 8 + g.len) 256)
+  suffix_empty h = rw (← e, le-ltb 0 f.len h)
 
-  pub suffix-fits : (f.len ≡ 0 → ⊥) → depth ≤ 31 → leb f.len (248 - 8 * depth) ≡ (ltb 0 g.len && leb (8 * depth + 8 + g.len) 256)
+  pub suffix-fits : 0 < f.len → depth ≤ 31 → leb f.len (248 - 8 * depth) ≡ (ltb 0 g.len && leb (8 * depth + 8 + g.len) 256)
   suffix-fits h d =
-      rw (← e, lt-ltb 0 f.len (omega arith))
+      rw (← e, lt-ltb 0 f.len h)
       (same_test (says_as (λ q. omega arith) (λ q. omega arith) (says-leb f.len (248 - 8 * depth))) (says-leb (8 * depth + 8 + f.len) 256))
 
 -- number 3 of a suffix that starts at the place reached: its end is not added up
 module _ (at : ℕ) (s : Suffix) (live : Bool) (p : Progress) (e : s.start ≡ p.place) where
-  pub suffix_over : at < s.start + s.len → Fault 3 ≡ suffix_check at s live p
+  pub suffix_over : at < s.start + s.len → Err RecordPlace ≡ suffix_check at s live p
   unfolding suffix_check pick
   suffix_over h = rw (eq-eqb _ _ e, lt-leb _ _ h)
 
-  pub suffix-before : s.start + s.len ≤ at → (q : Progress) → q ≡ pass_value ((s.len + 7) / 8 * 8) live p → Passed q ≡ suffix_check at s live p
+  pub suffix-before : s.start + s.len ≤ at → (n : ℕ) → n ≡ s.len + (8 - s.len % 8) % 8 → (q : Progress) → q ≡ pass_value n live p
+      → Ok (Passed q) ≡ suffix_check at s live p
   unfolding suffix_check pick
-  suffix-before h q f = rw (eq-eqb _ _ e, le-leb _ _ h, f)
+  suffix-before h n g q f = let room : n ≡ (s.len + 7) / 8 * 8 = omega arith in rw (eq-eqb _ _ e, le-leb _ _ h, f, room)
 
 -- an upper end that is not reached is one that may be, one lower
 pub up_to : (x top : ℕ) → leb x top ≡ ltb x (top + 1)
@@ -77,9 +74,9 @@ module _ (image : List ℕ) (at permutation i : ℕ) (o : Opened image at permut
   slot_here = rw (← o.is) e
 
   -- what is made of it, by its ikey x and its `keylenx` k
-  pub slot_read : (depth lo hi x k : ℕ) (p : Progress) → x ≡ ikey_at image at s → k ≡ keylenx_at image at s → (z : SlotCheck)
-      → z ≡ pick (not (listed depth (keyed x k 0))) (Fault 6) (pick (not (fits depth (keyed 0 k (suffix_at image at s).len))) (Fault 7)
-      (pick (not (in_order image at i && in_range lo hi (keyed x k 0))) (Fault 8) (kind_check image at s p)))
+  pub slot_read : (depth lo hi x k : ℕ) (p : Progress) → x ≡ ikey_at image at s → k ≡ keylenx_at image at s → (z : Result SlotCheck Decline)
+      → z ≡ pick (not (listed depth (keyed x k 0))) (Err SlotLength) (pick (not (fits depth (keyed 0 k (suffix_at image at s).len))) (Err SlotKey)
+      (pick (not (in_order image at i && in_range lo hi (keyed x k 0))) (Err SlotOrder) (kind_check image at s p)))
       → z ≡ slot_check image depth at lo hi i p
   unfolding slot_check
   slot_read depth lo hi x k p f g z h = rw (← slot_here, ← f, ← g) h

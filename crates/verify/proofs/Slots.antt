@@ -1,14 +1,14 @@
 -- The check of a leaf's slots ends without a fault exactly where the rules hold of them: by recursion on the slots left. The
 -- check of a layer below comes in as a function, with what is known of it.
-use Rattle.std.specs.Prelude.{◌&&◌, ◌≡◌, ◌+◌, ◌^◌, ◌≤◌, ◌<◌}
+use Rattle.std.specs.Prelude.{◌&&◌, ◌≡◌, ◌+◌, ◌^◌, ◌≤◌, ◌<◌, Ok, Err}
 use Rattle.base.specs.Kit.{Bool, true, false, not, false≢true, List, refl, subst, ℕ, zero, suc, add-one, arith, leb, eqb, length, leb-true, leb-false, le-leb, lt-leb, eqb-true, eqb-false}
 use Rattle.base.specs.Pick.{pick}
 use Rattle.base.proofs.Choice.{pick_ind, by_test}
 use Rattle.layering.specs.Tree.{Fields, fields_at, Node, Slots, none, value, layer, slots_from}
 use Rattle.layering.specs.Accepted.{room, end_n, end_s, InPostOrderS, ShortPathsS, Before, BeforeFirst, AscendS, InRangeS, first_n, LinkedN, LinkedS, FieldsS}
 use Rattle.layering.proofs.Size.{leaves_fit_s}
-use Rattle.verify.specs.Types.{Progress}
-use Rattle.verify.specs.Check.{stop, each, pass_value, enter_layer, leave_layer, listed, fits, in_order, in_range, suffix_c, layer_slot_c, slot_c}
+use Rattle.verify.specs.Types.{RecordPlace, SlotLength, SlotKey, SlotOrder, Progress}
+use Rattle.verify.specs.Check.{Checked, each, pass_value, enter_layer, leave_layer, listed, fits, in_order, in_range, suffix_c, layer_slot_c, slot_c}
 use Rattle.verify.proofs.Going.{says-leb, says-eqb, says-and, says_self, Runs, runs_as, runs_to, runs_here, runs_test, runs-demand, runs_then}
 use Rattle.verify.proofs.Fields.{value-kind, kind-value, layer-kind, kind-layer, says-before, says_range}
 use Rattle.verify.proofs.Places.{last_n, linked-last_n, Within, room_aligned, aligned_n}
@@ -20,7 +20,7 @@ pub record SoundLayer (image : List ℕ) (depth : ℕ) (p : Progress) (n : Node)
   pub ends : last_n n ≡ 0
 
 -- A check of layers does what it should.
-abbrev pub Layers : List ℕ → ℕ → (ℕ → Progress → Progress) → (ℕ → Node) → Type 0
+abbrev pub Layers : List ℕ → ℕ → (ℕ → Progress → Checked) → (ℕ → Node) → Type 0
 Layers image depth sub tree =
     (root : ℕ) (p : Progress) → Underway image p → p.chained ≡ false
     → Runs (sub root p) (SoundLayer image depth p (tree root)) (after_n p (tree root))
@@ -39,14 +39,14 @@ unfoldable Suffixed : ℕ → Fields → Progress → Type 0
 Suffixed at s p = s.keylenx ≡ 64 → (s.start ≡ p.place) × (s.start + s.len ≤ at)
 
 suffix_runs : (at : ℕ) (s : Fields) (p : Progress)
-    → Runs (pick (eqb s.keylenx 64) (suffix_c at s p) (pass_value 0 s.live p)) (Suffixed at s p) (passed s p)
+    → Runs (pick (eqb s.keylenx 64) (suffix_c at s p) (Ok (pass_value 0 s.live p))) (Suffixed at s p) (passed s p)
 unfolding Suffixed suffix_c room pick
 suffix_runs at s p = go (eqb s.keylenx 64) refl
   where
-    go : (b : Bool) → eqb s.keylenx 64 ≡ b → Runs (pick b (suffix_c at s p) (pass_value 0 s.live p)) (Suffixed at s p) (passed s p)
+    go : (b : Bool) → eqb s.keylenx 64 ≡ b → Runs (pick b (suffix_c at s p) (Ok (pass_value 0 s.live p))) (Suffixed at s p) (passed s p)
     go true e =
         runs_as (λ h q. h) (λ h. h (eqb-true _ _ e))
-        (runs-demand 2 (passed s p) (says-and (says-eqb s.start p.place) (says-leb (s.start + s.len) at)))
+        (runs-demand RecordPlace (passed s p) (says-and (says-eqb s.start p.place) (says-leb (s.start + s.len) at)))
     go false e = rw e (runs_as (λ h q. absurd (eqb-false _ _ e q)) (λ h. tt) (runs_here (pass_value 0 s.live p)))
 
 -- the place behind it is before the trailer, as its leaf is
@@ -57,7 +57,7 @@ suffix-before {n} at s p b h f =
     pick_ind (λ (r : ℕ). p.place + r + 32 ≤ n) (eqb s.keylenx 64)
     (λ e. omega (arith, (f (eqb-true _ _ e)).0, (f (eqb-true _ _ e)).1)) (λ e. omega arith)
 
-module _ (image : List ℕ) (sub : ℕ → Progress → Progress) (tree : ℕ → Node) (depth at lo hi : ℕ)
+module _ (image : List ℕ) (sub : ℕ → Progress → Checked) (tree : ℕ → Node) (depth at lo hi : ℕ)
     (layers : Layers image (depth + 1) sub tree) where
   -- the slot at a position, and the layer below it
   abbrev slot : ℕ → Fields
@@ -73,14 +73,14 @@ module _ (image : List ℕ) (sub : ℕ → Progress → Progress) (tree : ℕ �
     range : (lo ≤ (slot i).ikey) × ((slot i).ikey < hi)
     part : S
 
-  tested : {S : Type 0} {x q : Progress} (i : ℕ) → Runs x S q
-      → Runs (pick (not (listed depth (slot i))) (stop 6) (pick (not (fits depth (slot i))) (stop 7)
-      (pick (not (in_order image at i && in_range lo hi (slot i))) (stop 8) x))) (Tested i S) q
+  tested : {S : Type 0} {x : Checked} {q : Progress} (i : ℕ) → Runs x S q
+      → Runs (pick (not (listed depth (slot i))) (Err SlotLength) (pick (not (fits depth (slot i))) (Err SlotKey)
+      (pick (not (in_order image at i && in_range lo hi (slot i))) (Err SlotOrder) x))) (Tested i S) q
   tested i r =
-      let ordered = runs_test 7 (says-and (says_self (in_order image at i)) (says_range lo hi (slot i))) (λ h. r) in
-      let fitting = runs_test 6 (says_self (fits depth (slot i))) (λ h. ordered) in
+      let ordered = runs_test SlotOrder (says-and (says_self (in_order image at i)) (says_range lo hi (slot i))) (λ h. r) in
+      let fitting = runs_test SlotKey (says_self (fits depth (slot i))) (λ h. ordered) in
       runs_as (λ h. search) (λ h. search)
-      (runs_test 5 (says_self (listed depth (slot i))) (λ h. fitting))
+      (runs_test SlotLength (says_self (listed depth (slot i))) (λ h. fitting))
 
   value_runs : (i : ℕ) (p : Progress) → (slot i).keylenx < 128
       → Runs (slot_c sub image depth at lo hi i p) (Tested i (Suffixed at (slot i) p)) (passed (slot i) p)
@@ -91,9 +91,9 @@ module _ (image : List ℕ) (sub : ℕ → Progress → Progress) (tree : ℕ �
       → Runs (slot_c sub image depth at lo hi i p) (Tested i (SoundLayer image (depth + 1) (enter_layer p) (below i))) (behind p (below i))
   unfolding slot_c pick layer_slot_c behind after_n
   layer_runs i p r big =
-      let entered : Underway image (enter_layer p) = record { going = r.going; aligned = r.aligned; before = r.before } in
+      let entered : Underway image (enter_layer p) = record { aligned = r.aligned; before = r.before } in
       rw (le-leb 128 (slot i).keylenx big) (tested i (runs_as (λ h. h.0) (λ h. (h, tt))
-      (runs_then (leave_layer p) (layers (slot i).value (enter_layer p) entered refl) r.going (λ s. runs_here _))))
+      (runs_then (λ q. Ok (leave_layer p q)) (layers (slot i).value (enter_layer p) entered refl) (λ s. runs_here _))))
 
   -- a slot stands before the next where that one is in order
   next-order : (i n : ℕ) → (0 < n → in_order image at (i + 1) ≡ true) → BeforeFirst (slot i) (slots_from tree image at (i + 1) n)
@@ -115,7 +115,7 @@ module _ (image : List ℕ) (sub : ℕ → Progress → Progress) (tree : ℕ �
           (λ e q. q) (λ e q. q)
 
   -- THE SLOTS from position i on, n of them.
-  abbrev slots_c : ℕ → ℕ → Progress → Progress
+  abbrev slots_c : ℕ → ℕ → Progress → Checked
   slots_c i n p = each (slot_c sub image depth at lo hi) i n p
 
   abbrev Sound : ℕ → ℕ → Progress → Slots → Type 0
@@ -134,11 +134,10 @@ module _ (image : List ℕ) (sub : ℕ → Progress → Progress) (tree : ℕ �
     value-more small =
         rw (lt-leb 128 (slot i).keylenx small)
         (runs_to (after-value p (slot i) others) (runs_as to from
-        (runs_then (slots_c (i + 1) n) (value_runs i p small) r.going (λ h. rest (passed (slot i) p) (ready h.part)))))
+        (runs_then (slots_c (i + 1) n) (value_runs i p small) (λ h. rest (passed (slot i) p) (ready h.part)))))
       where
         ready : Suffixed at (slot i) p → Underway image (passed (slot i) p)
         ready h = record {
-          going = r.going;
           aligned = omega (arith, r.aligned, room_aligned (slot i));
           before = suffix-before at (slot i) p in_image r.before h;
         }
@@ -167,10 +166,10 @@ module _ (image : List ℕ) (sub : ℕ → Progress → Progress) (tree : ℕ �
     layer-more big =
         rw (le-leb 128 (slot i).keylenx big)
         (runs_to (after-layer p (slot i) (below i) others) (runs_as to from
-        (runs_then (slots_c (i + 1) n) (layer_runs i p r big) r.going (λ h. rest (behind p (below i)) (ready h.part)))))
+        (runs_then (slots_c (i + 1) n) (layer_runs i p r big) (λ h. rest (behind p (below i)) (ready h.part)))))
       where
         ready : SoundLayer image (depth + 1) (enter_layer p) (below i) → Underway image (behind p (below i))
-        ready h = record { going = r.going; aligned = aligned_n (below i) p.place r.aligned; before = h.sound.before }
+        ready h = record { aligned = aligned_n (below i) p.place r.aligned; before = h.sound.before }
 
         Parts : Type 0
         Parts = Tested i (SoundLayer image (depth + 1) (enter_layer p) (below i)) × Sound (i + 1) n (behind p (below i)) others

@@ -6,7 +6,7 @@ use Rattle.layering.specs.Tree.{Fields, LeafHead, Node, leaf, Kids, more, Slots,
 use Rattle.layering.specs.Keys.{leaves_n, leaves_k, leaves_s, values_n, values_k, values_s, layers_n, layers_k, layers_s, lives_n, lives_k, lives_s}
 use Rattle.layering.specs.Accepted.{room, end_n, end_k, end_s, InPostOrderN, InPostOrderK, InPostOrderS, ShortPathsN, ShortPathsK, ShortPathsS, AscendN, AscendK, AscendS, InRangeN, InRangeK, InRangeS, first_n, first_k, LinkedN, LinkedK, LinkedS, FieldsN, FieldsK, FieldsS}
 use Rattle.verify.specs.Types.{Counts, Progress}
-use Rattle.verify.specs.Check.{with_place, with_chain, with_counts, pass_value, pass_leaf, enter_layer, leave_layer}
+use Rattle.verify.specs.Check.{Checked, with_place, with_chain, with_counts, pass_value, pass_leaf, enter_layer, leave_layer}
 use Rattle.verify.proofs.Going.{Runs}
 use Rattle.verify.proofs.Places.{last_n, last_k, Within, aligned_n}
 
@@ -69,9 +69,8 @@ unfolding after_n after_k added end_k last_k leaves_k values_k layers_k lives_k
 after_more p n x k =
     recount (after_k p (more n x k)) (after_k (after_n p n) k) (omega arith) (omega arith) (omega arith) (omega arith)
 
--- No fault yet, at a multiple of 8 before the trailer.
+-- At a multiple of 8 before the trailer.
 pub record Underway (image : List ℕ) (p : Progress) : Type 0 where
-  pub going : p.fault ≡ 0
   pub aligned : p.place % 8 ≡ 0
   pub before : p.place + 32 ≤ length image
 
@@ -118,11 +117,11 @@ SoundS image depth at lo hi p s =
 
 -- THE STATEMENT: x, the check of the subtree n that is reached at p, ends without a fault exactly where the rules hold of n, and
 -- then has come behind it.
-abbrev pub Checks : List ℕ → ℕ → ℕ → ℕ → Progress → Progress → Node → Type 0
+abbrev pub Checks : List ℕ → ℕ → ℕ → ℕ → Checked → Progress → Node → Type 0
 Checks image depth lo hi x p n = Runs x (SoundN image depth lo hi p n) (after_n p n)
 
 -- behind a subtree nothing has changed but the place
 pub ready_after_n : (image : List ℕ) (p : Progress) (n : Node) → Underway image p → end_n p.place n + 32 ≤ length image
     → Underway image (after_n p n)
 unfolding after_n
-ready_after_n image p n r b = record { going = r.going; aligned = aligned_n n p.place r.aligned; before = b }
+ready_after_n image p n r b = record { aligned = aligned_n n p.place r.aligned; before = b }

@@ -1,7 +1,8 @@
 -- The check, said by what its inner functions answer: a subtree by its record, a slot by its kind, a layer by its subtree;
 -- and a loop over parts, one turn at a time.
-use Rattle.std.specs.Prelude.{◌≡◌, ◌&&◌, ◌+◌, ◌-◌, ◌^◌, ◌<◌, ◌≤◌}
-use Rattle.base.specs.Kit.{refl, true, false, List, ℕ, zero, suc, sub-one, arith, leb, eqb, eq-eqb, ne_eqb}
+use Rattle.std.specs.Prelude.{◌≡◌, ◌&&◌, ◌+◌, ◌-◌, ◌^◌, ◌<◌, ◌≤◌, Result, Ok, Err}
+use Rattle.base.specs.Kit.{refl, true, false, List, ℕ, zero, suc, sub-one, arith, leb, eqb, ne_eqb}
+use Rattle.base.specs.Decline.{and_then}
 use Rattle.base.specs.Pick.{pick}
 use Rattle.base.proofs.Choice.{pick-map, pick_inner}
 use Rattle.base.proofs.Count.{left-more}
@@ -9,29 +10,24 @@ use Rattle.node.specs.Permuter.{size_of}
 use Rattle.node.specs.Layout.{permutation_at, nkeys_at, child_at}
 use Rattle.layering.specs.Tree.{fields_at}
 use Rattle.layering.specs.Accepted.{room}
-use Rattle.verify.specs.Check.{stop, and_then, each, demand, pass_value, pass_internode, listed, fits, in_range, suffix_c, layer_slot_c, slot_c, leaf_c, low_end, high_end, internode_c, record_c, node_c, layer_with, layer_c}
+use Rattle.verify.specs.Check.{Checked, each, demand, pass_value, pass_internode, listed, fits, in_range, suffix_c, layer_slot_c, slot_c, leaf_c, low_end, high_end, internode_c, record_c, node_c, layer_with, layer_c}
 use Rattle.verify.specs.CodeCases.{after_record, after_slot, sub_c, leaf_check, internode_check, record_check, suffix_check, kind_check, slot_check, record_end, leaf_end, layer_end}
-use Rattle.verify.specs.Types.{Progress, RecordCheck, SlotCheck}
+use Rattle.verify.specs.Types.{Decline, RecordPlace, RecordKind, SlotCheck, Progress}
 
 -- LOOPS. What is left from i on comes to w, as the whole does.
-module _ (f : ℕ → Progress → Progress) (n i : ℕ) (p w : Progress) (same : each f i (n - i) p ≡ w) where
-  pub each_none : n ≤ i → p ≡ w
+module _ (f : ℕ → Progress → Checked) (n i : ℕ) (p : Progress) (w : Checked) (same : each f i (n - i) p ≡ w) where
+  pub each_none : n ≤ i → Ok p ≡ w
   unfolding each
   each_none h = let e : n - i ≡ 0 = omega arith in rw e at same
 
-  module _ (h : i < n) (r : Progress) (e : r ≡ f i p) where
-    pub each_on : r.fault ≡ 0 → each f (i + 1) (n - (i + 1)) r ≡ w
-    unfolding each and_then pick
-    each_on z = rw (left-more n i h, ← e, eq-eqb r.fault 0 z) at same
+  module _ (h : i < n) where
+    pub each_on : (r : Progress) → Ok r ≡ f i p → each f (i + 1) (n - (i + 1)) r ≡ w
+    unfolding each and_then
+    each_on r e = rw (left-more n i h, ← e) at same
 
-    pub each-stop : (r.fault ≡ 0 → ⊥) → r ≡ w
-    unfolding each and_then pick
-    each-stop z = rw (left-more n i h, ← e, ne_eqb r.fault 0 z) at same
-
--- nothing is done behind a fault
-pub then-stop : (p : Progress) (f : Progress → Progress) → (p.fault ≡ 0 → ⊥) → p ≡ and_then p f
-unfolding and_then pick
-then-stop p f z = rw (ne_eqb p.fault 0 z)
+    pub each-stop : (d : Decline) → Err d ≡ f i p → Err d ≡ w
+    unfolding each and_then
+    each-stop d e = rw (left-more n i h, ← e) at same
 
 pick_true : {A : Type 0} (x y : A) → pick true x y ≡ x
 unfolding pick
@@ -42,34 +38,34 @@ unfolding pick
 pick-false x y = refl
 
 -- RECORDS
-module _ (sub : ℕ → Progress → Progress) (image : List ℕ) (depth at lo hi : ℕ) where
+module _ (sub : ℕ → Progress → Checked) (image : List ℕ) (depth at lo hi : ℕ) where
   -- child i, with q internodes left on a path from it
-  abbrev pub child_c : ℕ → ℕ → Progress → Progress
+  abbrev pub child_c : ℕ → ℕ → Progress → Checked
   child_c q i = node_c sub image depth q (child_at image at i) (low_end image at lo i) (high_end image at hi i)
 
   -- a leaf's slots, an internode's children, and the record's end
-  abbrev pub leaf_parts : Progress → Progress
+  abbrev pub leaf_parts : Progress → Checked
   leaf_parts p = and_then (each (slot_c sub image depth at lo hi) 0 (size_of (permutation_at image at)) p) (leaf_end image at)
 
-  abbrev pub inner_parts : ℕ → Progress → Progress
+  abbrev pub inner_parts : ℕ → Progress → Checked
   inner_parts q p = and_then (each (child_c q) 0 (nkeys_at image at + 1) p) (record_end at 256)
 
   pub node-is : (path : ℕ) (p : Progress)
       → node_c sub image depth path at lo hi p ≡ after_record (record_check image path at lo hi p) (leaf_parts p) (inner_parts (path - 1) p)
   unfolding node_c record_c record_check leaf_check internode_check leaf_c internode_c after_record pass_internode leaf_end record_end
-  node-is zero p = simp (pick-map (λ (r : RecordCheck). after_record r (leaf_parts p) (inner_parts (0 - 1) p)), pick_true)
+  node-is zero p = simp (pick-map (λ (r : Result RecordKind Decline). after_record r (leaf_parts p) (inner_parts (0 - 1) p)), pick_true)
   node-is (suc n) p =
-      rw sub-one (simp (pick-map (λ (r : RecordCheck). after_record r (leaf_parts p) (inner_parts n p)), ne_eqb (suc n) 0 (λ e. omega arith), pick-false))
+      rw sub-one (simp (pick-map (λ (r : Result RecordKind Decline). after_record r (leaf_parts p) (inner_parts n p)), ne_eqb (suc n) 0 (λ e. omega arith), pick-false))
 
 -- SLOTS. A suffix's room is read where there is one.
-pub slot_is : (sub : ℕ → Progress → Progress) (image : List ℕ) (depth at lo hi i : ℕ) (p : Progress)
+pub slot_is : (sub : ℕ → Progress → Checked) (image : List ℕ) (depth at lo hi i : ℕ) (p : Progress)
     → slot_c sub image depth at lo hi i p ≡ after_slot (slot_check image depth at lo hi i p) sub p
 unfolding slot_c slot_check kind_check suffix_c suffix_check layer_slot_c demand after_slot fields_at listed fits in_range room
 slot_is sub image depth at lo hi i p =
     let s = fields_at image at i in
     simp (
-      pick-map (λ (r : SlotCheck). after_slot r sub p),
-      pick_inner (λ (n : ℕ). pick (eqb s.start p.place && leb (s.start + s.len) at) (pass_value n s.live p) (stop 3)),
+      pick-map (λ (r : Result SlotCheck Decline). after_slot r sub p),
+      pick_inner (λ (n : ℕ). pick (eqb s.start p.place && leb (s.start + s.len) at) (Ok (pass_value n s.live p)) (Err RecordPlace)),
     )
 
 -- LAYERS

@@ -1,16 +1,18 @@
 -- THE THEOREM: the check's number is 0 exactly where `Obeys` holds of the image, and then its three numbers are the tree's. The tests
 -- before and behind the tree are taken apart here; the tree itself is `layers-run`.
-use Rattle.std.specs.Prelude.{◌≡◌, ◌+◌, ◌-◌, ◌%◌, ◌≤◌}
-use Rattle.base.specs.Kit.{Bool, true, false, not, false≢true, List, refl, ap, sym, ◌∙◌, subst, ℕ, arith, eqb, length, eq-eqb, eqb-false, not-true}
+use Rattle.std.specs.Prelude.{◌≡◌, ◌&&◌, ◌+◌, ◌-◌, ◌%◌, ◌≤◌, Result, Ok, Err}
+use Rattle.base.specs.Kit.{Bool, true, false, not, false≢true, List, refl, ap, sym, ◌∙◌, subst, ℕ, arith, eqb, length, eq-eqb, not-false}
+use Rattle.base.specs.Decline.{and_then}
 use Rattle.base.specs.Pick.{pick}
 use Rattle.base.proofs.Choice.{pick_ind}
+use Rattle.base.proofs.Declines.{never-zero}
 use Rattle.node.specs.Layout.{root_offset, key_count, stated_length, edition}
-use Rattle.node.specs.Heading.{length_ok, heading_fault}
+use Rattle.node.specs.Heading.{length_ok, heading}
 use Rattle.layering.specs.Tree.{tree_of}
 use Rattle.layering.specs.Keys.{lives_n}
 use Rattle.layering.specs.Accepted.{end_n, first_n, LinkedN, Obeys}
-use Rattle.verify.specs.Types.{Counts, Checked, Accepted, Declined, Progress}
-use Rattle.verify.specs.Check.{check_number, check_counts, accepted, layer_c, begin, finish, check}
+use Rattle.verify.specs.Types.{Decline, Counts, Progress}
+use Rattle.verify.specs.Check.{Checked, check_number, check_counts, layer_c, begin, finish, check}
 use Rattle.verify.specs.Acceptance.{tree_counts}
 use Rattle.verify.proofs.Going.{Says, says-leb, says-eqb, says-and, Runs}
 use Rattle.verify.proofs.Places.{last_n, linked-last_n}
@@ -26,53 +28,65 @@ record Headed (image : List ℕ) : Type 0 where
   stated : stated_length image ≡ length image
   first-edition : edition image ≡ 1
 
-says_headed : (image : List ℕ) → Says (eqb (heading_fault image) 0) (Headed image)
-unfolding heading_fault pick length_ok
-says_headed image =
-    record {
-      holds = apart (length_ok (length image)) (eqb (stated_length image) (length image)) (eqb (edition image) 1) refl refl refl;
-      passes = λ h. rw (sized.passes (h.long, (h.short, h.whole)), eq-eqb _ _ h.stated, eq-eqb _ _ h.first-edition) refl;
-    }
-  where
-    sized : Says (length_ok (length image)) ((440 ≤ length image) × ((length image ≤ 16777216) × (length image % 8 ≡ 0)))
-    sized = says-and (says-leb 440 (length image)) (says-and (says-leb (length image) 16777216) (says-eqb (length image % 8) 0))
+module _ (image : List ℕ) where
+  says_sized : Says (length_ok (length image)) ((440 ≤ length image) × ((length image ≤ 16777216) × (length image % 8 ≡ 0)))
+  unfolding length_ok
+  says_sized = says-and (says-leb 440 (length image)) (says-and (says-leb (length image) 16777216) (says-eqb (length image % 8) 0))
 
-    apart : (s t u : Bool) → length_ok (length image) ≡ s → eqb (stated_length image) (length image) ≡ t → eqb (edition image) 1 ≡ u
-        → eqb (pick s (pick t (pick u 0 2) 2) 1) 0 ≡ true → Headed image
-    apart true true true e f g h =
-        let a = sized.holds e in
-        let stated = (says-eqb (stated_length image) (length image)).holds f in
-        let first-edition = (says-eqb (edition image) 1).holds g in
-        search
-    apart true true false e f g h = absurd (let z : ◌≡◌ {A = ℕ} 0 1 = cc in omega arith)
-    apart true false u e f g h = absurd (let z : ◌≡◌ {A = ℕ} 0 1 = cc in omega arith)
-    apart false t u e f g h = absurd (let z : ◌≡◌ {A = ℕ} 0 1 = cc in omega arith)
+  says_trailer : Says (eqb (stated_length image) (length image) && eqb (edition image) 1)
+      ((stated_length image ≡ length image) × (edition image ≡ 1))
+  says_trailer = says-and (says-eqb (stated_length image) (length image)) (says-eqb (edition image) 1)
 
--- an acceptance fixes its numbers
-same_numbers : (d c : Counts) → accepted d ≡ accepted c → c ≡ d
-unfolding accepted check_counts
-same_numbers d c h = sym (ap check_counts h)
+  heading-headed : (u : Unit {0}) → heading image ≡ Ok u → Headed image
+  unfolding heading
+  heading-headed u =
+      let P : Result Unit Decline → Type 0 = λ x. x ≡ Ok u → Headed image in
+      pick_ind P (not (length_ok (length image))) (λ t e. absurd (cc))
+      (λ t. pick_ind P (not (eqb (stated_length image) (length image) && eqb (edition image) 1)) (λ v e. absurd (cc))
+      (λ v e.
+      let a = says_sized.holds (not-false _ t) in
+      let b = says_trailer.holds (not-false _ v) in
+      record { long = a.0; short = a.1.0; whole = a.1.1; stated = b.0; first-edition = b.1 }))
 
--- a test of the answer, and all of them at the end
-accepts : (t : Bool) (n : ℕ) (x : Checked) (c : Counts) → pick (not t) (Declined n) x ≡ accepted c → (t ≡ true) × (x ≡ accepted c)
-unfolding pick accepted
-accepts true n x c e = (refl, e)
-accepts false n x c e = absurd (let z : ◌≡◌ {A = ℕ} 0 1 = cc in omega arith)
+  headed-heading : Headed image → heading image ≡ Ok tt
+  unfolding heading pick
+  headed-heading h = rw (says_sized.passes (h.long, (h.short, h.whole)), says_trailer.passes (h.stated, h.first-edition)) refl
 
-finish-accepts : (image : List ℕ) (p : Progress) → p.fault ≡ 0 → p.place + 32 ≡ length image
-    → key_count image ≡ p.live_slots → finish image p ≡ accepted p.counts
+-- AN ANSWER by `and_then` that is no decline, and one by a test.
+then-ok : {A B : Type 0} (x : Result A Decline) (f : A → Result B Decline) (z : B) → and_then x f ≡ Ok z → (y : A) × (x ≡ Ok y) × (f y ≡ Ok z)
+unfolding and_then
+then-ok (Ok y) f z e = (y, refl, e)
+then-ok (Err d) f z e = absurd (cc)
+
+accepts : (t : Bool) (d : Decline) (x : Result Counts Decline) (c : Counts) → pick (not t) (Err d) x ≡ Ok c → (t ≡ true) × (x ≡ Ok c)
+unfolding pick
+accepts true d x c e = (refl, e)
+accepts false d x c e = absurd (cc)
+
+-- what is accepted, and what is declined
+is-accepted : (r : Result Counts Decline) → check_number r ≡ 0 → r ≡ Ok (check_counts r)
+unfolding check_number check_counts
+is-accepted (Ok c) e = refl
+is-accepted (Err d) e = absurd (never-zero d e)
+
+-- "A declined call returns its number, zero elsewhere": of any answer.
+pub declined-zero : (r : Result Counts Decline) → (check_number r ≡ 0 → ⊥) → check_counts r ≡ record { leaves = 0; value_slots = 0; sub_layers = 0 }
+unfolding check_number check_counts
+declined-zero (Ok c) h = absurd (h refl)
+declined-zero (Err d) h = refl
+
+finish-accepts : (image : List ℕ) (p : Progress) → p.place + 32 ≡ length image → key_count image ≡ p.live_slots → finish image p ≡ Ok p.counts
 unfolding finish pick
-finish-accepts image p e f g =
-    rw (eq-eqb p.fault 0 e, eq-eqb (p.place + 32) (length image) f, eq-eqb (key_count image) p.live_slots g) refl
+finish-accepts image p f g = rw (eq-eqb (p.place + 32) (length image) f, eq-eqb (key_count image) p.live_slots g) refl
 
 module _ (image : List ℕ) where
   -- the check of the whole tree
-  whole : Progress
+  whole : Checked
   whole = layer_c image 31 (root_offset image) begin
 
   run : 440 ≤ length image → Runs whole (SoundLayer image 0 begin (tree_of image)) (after_n begin (tree_of image))
   unfolding whole tree_of
-  run b = layers-run image 31 (omega arith) (root_offset image) begin (record { going = refl; aligned = refl; before = omega arith }) refl
+  run b = layers-run image 31 (omega arith) (root_offset image) begin (record { aligned = refl; before = omega arith }) refl
 
   counted : (after_n begin (tree_of image)).counts ≡ tree_counts (tree_of image)
   unfolding after_n added tree_counts
@@ -82,71 +96,46 @@ module _ (image : List ℕ) where
   unfolding after_n
   lively = omega arith
 
-  accepts_tree : (c : Counts) → check image ≡ accepted c → Obeys image × (c ≡ tree_counts (tree_of image))
+  accepts_tree : (c : Counts) → check image ≡ Ok c → Obeys image × (c ≡ tree_counts (tree_of image))
   unfolding check finish whole after_n tree_counts SoundN
   accepts_tree c e =
-      let heading = accepts (eqb (heading_fault image) 0) _ _ c e in
-      let h : Headed image = (says_headed image).holds heading.0 in
-      let going = accepts (eqb whole.fault 0) _ _ c heading.1 in
-      let ended = accepts (eqb (whole.place + 32) (length image)) _ _ c going.1 in
-      let count = accepts (eqb (key_count image) whole.live_slots) _ _ c ended.1 in
-      let s : SoundLayer image 0 begin (tree_of image) = (run h.long).only ((says-eqb whole.fault 0).holds going.0) in
-      let q : whole ≡ after_n begin (tree_of image) = (run h.long).comes s in
-      let n : whole.counts ≡ tree_counts (tree_of image) = ap (λ (p : Progress). p.counts) q ∙ counted in
-      let end = (says-eqb (whole.place + 32) (length image)).holds ended.0 in
+      let headed = then-ok (heading image) _ c e in
+      let h : Headed image = heading-headed image headed.0 headed.1 in
+      let done = then-ok whole (finish image) c headed.2 in
+      let p : Progress = done.0 in
+      let ended = accepts (eqb (p.place + 32) (length image)) _ _ c done.2 in
+      let count = accepts (eqb (key_count image) p.live_slots) _ _ c ended.1 in
+      let s : SoundLayer image 0 begin (tree_of image) = (run h.long).only p done.1 in
+      let q : p ≡ after_n begin (tree_of image) = let f = sym done.1 ∙ (run h.long).comes s in cc in
+      let n : c ≡ tree_counts (tree_of image) = let f = count.1 in let g = ap (λ (p : Progress). p.counts) q ∙ counted in cc in
+      let end = (says-eqb (p.place + 32) (length image)).holds ended.0 in
       let to_trailer : end_n 8 (tree_of image) ≡ length image - 32 = omega (arith, end, ap (λ (p : Progress). p.place) q) in
       let links = subst (λ (x : ℕ). LinkedN x (tree_of image)) s.ends s.sound.links in
-      let live = (says-eqb (key_count image) whole.live_slots).holds count.0 ∙ ap (λ (p : Progress). p.live_slots) q ∙ lively in
-      (search, same_numbers whole.counts c count.1 ∙ n)
+      let live = (says-eqb (key_count image) p.live_slots).holds count.0 ∙ ap (λ (p : Progress). p.live_slots) q ∙ lively in
+      (search, n)
 
-  tree-accepted : Obeys image → check image ≡ accepted (tree_counts (tree_of image))
-  unfolding check pick whole after_n tree_counts SoundN
+  tree-accepted : Obeys image → check image ≡ Ok (tree_counts (tree_of image))
+  unfolding check and_then whole after_n tree_counts SoundN
   tree-accepted o =
       let h : Headed image = search in
       let ends : last_n (tree_of image) ≡ 0 = linked-last_n (tree_of image) 0 o.links in
       let links : LinkedN (last_n (tree_of image)) (tree_of image) = rw ends o.links in
       let before : end_n 8 (tree_of image) + 32 ≤ length image = omega (arith, o.to_trailer, o.long) in
       let fresh : false ≡ true → 0 ≡ first_n (tree_of image) = λ e. absurd (false≢true e) in
-      let q : whole ≡ after_n begin (tree_of image) = (run o.long).comes (search) in
-      let c : whole.counts ≡ tree_counts (tree_of image) = ap (λ (p : Progress). p.counts) q ∙ counted in
-      rw ((says_headed image).passes h)
-      (finish-accepts image whole (ap (λ (p : Progress). p.fault) q)
-      (omega (arith, o.to_trailer, o.long, ap (λ (p : Progress). p.place) q))
-      (o.count ∙ sym (ap (λ (p : Progress). p.live_slots) q ∙ lively))
-      ∙ ap accepted c)
-
-  -- no image is declined with 0
-  is-accepted : check_number (check image) ≡ 0 → check image ≡ accepted (check_counts (check image))
-  unfolding check finish whole check_number check_counts accepted
-  is-accepted =
-      let P : Checked → Type 0 = λ r. check_number r ≡ 0 → r ≡ accepted (check_counts r) in
-      let no_zero : (n : ℕ) → (n ≡ 0 → ⊥) → P (Declined n) = λ n h e. absurd (h e) in
-      pick_ind P (not (eqb (heading_fault image) 0)) (λ t. no_zero _ (eqb-false _ 0 (not-true _ t)))
-      (λ _. pick_ind P (not (eqb whole.fault 0)) (λ t. no_zero _ (eqb-false _ 0 (not-true _ t)))
-      (λ _. pick_ind P (not (eqb (whole.place + 32) (length image))) (λ _. no_zero 3 (λ e. omega arith))
-      (λ _. pick_ind P (not (eqb (key_count image) whole.live_slots)) (λ _. no_zero 10 (λ e. omega arith)) (λ _ e. refl))))
+      let q : whole ≡ Ok (after_n begin (tree_of image)) = (run o.long).comes (search) in
+      rw (headed-heading image h, q)
+      (finish-accepts image (after_n begin (tree_of image)) (omega (arith, o.to_trailer, o.long)) (o.count ∙ sym lively) ∙ ap (λ (c : Counts). Ok c) counted)
 
   pub accepted_obeys : check_number (check image) ≡ 0 → Obeys image × (check_counts (check image) ≡ tree_counts (tree_of image))
-  accepted_obeys e = accepts_tree _ (is-accepted e)
+  accepted_obeys e = accepts_tree _ (is-accepted (check image) e)
 
   pub obeys-accepted : Obeys image → (check_number (check image) ≡ 0) × (check_counts (check image) ≡ tree_counts (tree_of image))
-  unfolding check_number check_counts accepted
+  unfolding check_number check_counts
   obeys-accepted o = (ap check_number (tree-accepted o), ap check_counts (tree-accepted o))
-
-  -- what `check_image` answers where it declines is no 0
-  pub declined-number : (n : ℕ) → check image ≡ Declined n → n ≡ 0 → ⊥
-  unfolding check_number accepted
-  declined-number n e z = let a = is-accepted (ap check_number e ∙ z) in let y : ◌≡◌ {A = ℕ} 0 1 = cc in omega arith
-
--- "A declined call returns its number, zero elsewhere": of any answer.
-pub declined-zero : (r : Checked) → (check_number r ≡ 0 → ⊥) → check_counts r ≡ record { leaves = 0; value_slots = 0; sub_layers = 0 }
-unfolding check_number check_counts
-declined-zero (Accepted leaves values layers) h = absurd (h refl)
-declined-zero (Declined n) h = refl
 
 -- THE FUNCTION. `check_image` (src/lib.rt) returns r with r ≡ check image, by its contract. So its number is 0 exactly where the image
 -- obeys the rules, and then its three numbers are the tree's; else they are zero.
-pub check-image-accepts : (image : List ℕ) (r : Checked) → r ≡ check image
+pub check-image-accepts : (image : List ℕ) (r : Result Counts Decline) → r ≡ check image
     → (check_number r ≡ 0 → Obeys image × (check_counts r ≡ tree_counts (tree_of image)))
     × (Obeys image → (check_number r ≡ 0) × (check_counts r ≡ tree_counts (tree_of image)))
     × ((check_number r ≡ 0 → ⊥) → check_counts r ≡ record { leaves = 0; value_slots = 0; sub_layers = 0 })

@@ -1,68 +1,53 @@
 -- The check's answer for every byte list (01, "Check an image"). The tree is gone through in post-order, "the first fault
 -- deciding"; each test stands where 01 has it.
-use Rattle.std.specs.Prelude.{◌&&◌, ◌||◌, ◌+◌, ◌*◌, ◌%◌, ◌-◌, ◌^◌}
+use Rattle.std.specs.Prelude.{◌&&◌, ◌||◌, ◌+◌, ◌*◌, ◌%◌, ◌-◌, ◌^◌, Result, Ok, Err}
 use Rattle.base.specs.Kit.{Bool, true, false, not, List, ℕ, zero, suc, leb, ltb, eqb, length}
+use Rattle.base.specs.Decline.{number_of, and_then}
 use Rattle.base.specs.Pick.{pick}
 use Rattle.node.specs.Version.{is_leaf, at_rest}
 use Rattle.node.specs.Permuter.{size_of, slot_at}
 use Rattle.node.specs.Layout.{version_at, permutation_at, next_at, nkeys_at, separator_at, child_at, root_offset, key_count}
-use Rattle.node.specs.Heading.{heading_fault}
+use Rattle.node.specs.Heading.{heading}
 use Rattle.layering.specs.Tree.{Fields, fields_at}
 use Rattle.layering.specs.Accepted.{room}
-use Rattle.verify.specs.Types.{Counts, Checked, Accepted, Declined, Progress}
+use Rattle.verify.specs.Types.{Decline, RecordPlace, RecordVersion, LeafPermutation, SlotLength, SlotKey, SlotOrder, LeafChain, KeyCount, Counts, Progress}
 
 -- 01's number of an answer, 0 for acceptance, and its values: "Acceptance gives the numbers of leaves, value slots and
 -- sub-layers"; "A declined call returns its number, zero elsewhere".
-unfoldable pub check_number : Checked → ℕ
-check_number (Accepted leaves values layers) = 0
-check_number (Declined n) = n
+unfoldable pub check_number : Result Counts Decline → ℕ
+check_number (Ok c) = 0
+check_number (Err d) = number_of d
 
-unfoldable pub check_counts : Checked → Counts
-check_counts (Accepted leaves values layers) = record { leaves = leaves; value_slots = values; sub_layers = layers }
-check_counts (Declined n) = record { leaves = 0; value_slots = 0; sub_layers = 0 }
+unfoldable pub check_counts : Result Counts Decline → Counts
+check_counts (Ok c) = c
+check_counts (Err d) = record { leaves = 0; value_slots = 0; sub_layers = 0 }
 
-unfoldable pub accepted : Counts → Checked
-accepted c = Accepted c.leaves c.value_slots c.sub_layers
+-- What the check of a part of the tree comes to: the progress behind it, or the first fault.
+abbrev pub Checked : Type 0
+Checked = Result Progress Decline
 
 -- PROGRESS where nothing is counted yet and no leaf was met; and with another place, another chain of leaves, other counts.
-abbrev pub uncounted : ℕ → ℕ → Progress
-uncounted fault place =
-    record {
-      fault = fault;
-      place = place;
-      chained = false;
-      next = 0;
-      counts = record { leaves = 0; value_slots = 0; sub_layers = 0 };
-      live_slots = 0;
-    }
+abbrev pub uncounted : ℕ → Progress
+uncounted place =
+    record { place = place; chained = false; next = 0; counts = record { leaves = 0; value_slots = 0; sub_layers = 0 }; live_slots = 0 }
 
 abbrev pub with_place : ℕ → Progress → Progress
-with_place place p =
-    record { fault = p.fault; place = place; chained = p.chained; next = p.next; counts = p.counts; live_slots = p.live_slots }
+with_place place p = record { place = place; chained = p.chained; next = p.next; counts = p.counts; live_slots = p.live_slots }
 
 abbrev pub with_chain : Bool → ℕ → Progress → Progress
-with_chain chained next p =
-    record { fault = p.fault; place = p.place; chained = chained; next = next; counts = p.counts; live_slots = p.live_slots }
+with_chain chained next p = record { place = p.place; chained = chained; next = next; counts = p.counts; live_slots = p.live_slots }
 
 abbrev pub with_counts : Counts → ℕ → Progress → Progress
-with_counts counts live p =
-    record { fault = p.fault; place = p.place; chained = p.chained; next = p.next; counts = counts; live_slots = live }
+with_counts counts live p = record { place = p.place; chained = p.chained; next = p.next; counts = counts; live_slots = live }
 
--- GOING ON. Nothing is looked at behind a fault.
-abbrev pub stop : ℕ → Progress
-stop n = uncounted n 0
-
-unfoldable pub and_then : Progress → (Progress → Progress) → Progress
-and_then p f = pick (eqb p.fault 0) (f p) p
-
--- `f` at i, i + 1 and so on, n times.
-unfoldable pub each : (ℕ → Progress → Progress) → ℕ → ℕ → Progress → Progress
-each f i zero p = p
+-- GOING ON. Nothing is looked at behind a fault, by `and_then`. Here: `f` at i, i + 1 and so on, n times.
+unfoldable pub each : (ℕ → Progress → Checked) → ℕ → ℕ → Progress → Checked
+each f i zero p = Ok p
 each f i (suc n) p = and_then (f i p) (each f (i + 1) n)
 
--- n where the test fails.
-unfoldable pub demand : ℕ → Bool → Progress → Progress
-demand n test p = pick test p (stop n)
+-- d where the test fails.
+unfoldable pub demand : Decline → Bool → Progress → Checked
+demand d test p = pick test (Ok p) (Err d)
 
 -- What a part of the tree adds to the progress: a value slot, live or dead, whose suffix takes so many bytes.
 abbrev pub pass_value : ℕ → Bool → Progress → Progress
@@ -119,21 +104,21 @@ unfoldable pub in_range : ℕ → ℕ → Fields → Bool
 in_range lo hi s = leb lo s.ikey && ltb s.ikey hi
 
 -- "3: a suffix not at the place reached or running into its leaf".
-unfoldable pub suffix_c : ℕ → Fields → Progress → Progress
-suffix_c at s p = demand 3 (eqb s.start p.place && leb (s.start + s.len) at) (pass_value (room s) s.live p)
+unfoldable pub suffix_c : ℕ → Fields → Progress → Checked
+suffix_c at s p = demand RecordPlace (eqb s.start p.place && leb (s.start + s.len) at) (pass_value (room s) s.live p)
 
 -- "then the layer"; `sub` checks the layer at a root.
-unfoldable pub layer_slot_c : (ℕ → Progress → Progress) → Fields → Progress → Progress
-layer_slot_c sub s p = and_then (sub s.value (enter_layer p)) (leave_layer p)
+unfoldable pub layer_slot_c : (ℕ → Progress → Checked) → Fields → Progress → Checked
+layer_slot_c sub s p = and_then (sub s.value (enter_layer p)) (λ q. Ok (leave_layer p q))
 
 -- The slot at position i of the leaf at `at`, whose layer lies at `depth` and whose ikeys lie from lo up to but not at hi.
-unfoldable pub slot_c : (ℕ → Progress → Progress) → List ℕ → ℕ → ℕ → ℕ → ℕ → ℕ → Progress → Progress
+unfoldable pub slot_c : (ℕ → Progress → Checked) → List ℕ → ℕ → ℕ → ℕ → ℕ → ℕ → Progress → Checked
 slot_c sub image depth at lo hi i p =
     let s = fields_at image at i in
-    pick (not (listed depth s)) (stop 6)
-    (pick (not (fits depth s)) (stop 7)
-    (pick (not (in_order image at i && in_range lo hi s)) (stop 8)
-    (pick (leb 128 s.keylenx) (layer_slot_c sub s p) (pick (eqb s.keylenx 64) (suffix_c at s p) (pass_value 0 s.live p)))))
+    pick (not (listed depth s)) (Err SlotLength)
+    (pick (not (fits depth s)) (Err SlotKey)
+    (pick (not (in_order image at i && in_range lo hi s)) (Err SlotOrder)
+    (pick (leb 128 s.keylenx) (layer_slot_c sub s p) (pick (eqb s.keylenx 64) (suffix_c at s p) (Ok (pass_value 0 s.live p))))))
 
 -- LEAVES. "9: the previous leaf's `next` is not this leaf".
 unfoldable pub expected : ℕ → Progress → Bool
@@ -154,12 +139,12 @@ unfoldable pub permutes : ℕ → Bool
 permutes permutation = permutes_from permutation 0 15
 
 -- "After a record's parts 3: it does not start at the place reached."
-unfoldable pub leaf_c : (ℕ → Progress → Progress) → List ℕ → ℕ → ℕ → ℕ → ℕ → Progress → Progress
+unfoldable pub leaf_c : (ℕ → Progress → Checked) → List ℕ → ℕ → ℕ → ℕ → ℕ → Progress → Checked
 leaf_c sub image depth at lo hi p =
-    pick (not (expected at p)) (stop 9)
-    (pick (not (permutes (permutation_at image at))) (stop 5)
+    pick (not (expected at p)) (Err LeafChain)
+    (pick (not (permutes (permutation_at image at))) (Err LeafPermutation)
     (and_then (each (slot_c sub image depth at lo hi) 0 (size_of (permutation_at image at)) p)
-    (λ q. demand 3 (eqb at q.place) (pass_leaf (next_at image at) q))))
+    (λ q. demand RecordPlace (eqb at q.place) (pass_leaf (next_at image at) q))))
 
 -- INTERNODES. "8: separators": they ascend strictly, from above lo to below hi.
 unfoldable pub separators_from : List ℕ → ℕ → ℕ → ℕ → ℕ → ℕ → Bool
@@ -176,49 +161,47 @@ unfoldable pub high_end : List ℕ → ℕ → ℕ → ℕ → ℕ
 high_end image at hi i = pick (ltb i (nkeys_at image at)) (separator_at image at i) hi
 
 -- `kid` checks the subtree at an offset between two ends.
-unfoldable pub internode_c : (ℕ → ℕ → ℕ → Progress → Progress) → List ℕ → ℕ → ℕ → ℕ → Progress → Progress
+unfoldable pub internode_c : (ℕ → ℕ → ℕ → Progress → Checked) → List ℕ → ℕ → ℕ → ℕ → Progress → Checked
 internode_c kid image at lo hi p =
-    pick (not (separators_from image at lo hi 0 (nkeys_at image at))) (stop 8)
+    pick (not (separators_from image at lo hi 0 (nkeys_at image at))) (Err SlotOrder)
     (and_then (each (λ i. kid (child_at image at i) (low_end image at lo i) (high_end image at hi i)) 0 (nkeys_at image at + 1) p)
-    (λ q. demand 3 (eqb at q.place) (pass_internode q)))
+    (λ q. demand RecordPlace (eqb at q.place) (pass_internode q)))
 
 -- SUBTREES. On reaching a record: "3: ..."; "4: a forbidden version bit, more than 15 keys, or a thirteenth internode". Its
 -- leaf bit is read where an internode would lie before the trailer; a leaf is longer. `inner` is what an internode comes to.
-unfoldable pub record_c : (ℕ → Progress → Progress) → List ℕ → ℕ → ℕ → ℕ → ℕ → Progress → Progress → Progress
+unfoldable pub record_c : (ℕ → Progress → Checked) → List ℕ → ℕ → ℕ → ℕ → ℕ → Progress → Checked → Checked
 record_c sub image depth at lo hi p inner =
-    pick (not (reachable image 256 at p)) (stop 3)
+    pick (not (reachable image 256 at p)) (Err RecordPlace)
     (pick (is_leaf (version_at image at))
-    (pick (not (reachable image 400 at p)) (stop 3)
-    (pick (not (at_rest (version_at image at))) (stop 4) (leaf_c sub image depth at lo hi p)))
-    (pick (not (at_rest (version_at image at) && leb (nkeys_at image at) 15)) (stop 4) inner))
+    (pick (not (reachable image 400 at p)) (Err RecordPlace)
+    (pick (not (at_rest (version_at image at))) (Err RecordVersion) (leaf_c sub image depth at lo hi p)))
+    (pick (not (at_rest (version_at image at) && leb (nkeys_at image at) 15)) (Err RecordVersion) inner))
 
 -- The subtree at an offset, with at most n internodes on a path.
-unfoldable pub node_c : (ℕ → Progress → Progress) → List ℕ → ℕ → ℕ → ℕ → ℕ → ℕ → Progress → Progress
-node_c sub image depth zero at lo hi p = record_c sub image depth at lo hi p (stop 4)
+unfoldable pub node_c : (ℕ → Progress → Checked) → List ℕ → ℕ → ℕ → ℕ → ℕ → ℕ → Progress → Checked
+node_c sub image depth zero at lo hi p = record_c sub image depth at lo hi p (Err RecordVersion)
 node_c sub image depth (suc n) at lo hi p =
     record_c sub image depth at lo hi p (internode_c (node_c sub image depth n) image at lo hi p)
 
 -- LAYERS. "0 and 2^64 being a layer's" ends. "After a layer 9: last `next` not 0."
-unfoldable pub layer_with : (ℕ → Progress → Progress) → List ℕ → ℕ → ℕ → Progress → Progress
-layer_with sub image depth root p = and_then (node_c sub image depth 12 root 0 (2 ^ 64) p) (λ q. demand 9 (eqb q.next 0) q)
+unfoldable pub layer_with : (ℕ → Progress → Checked) → List ℕ → ℕ → ℕ → Progress → Checked
+layer_with sub image depth root p = and_then (node_c sub image depth 12 root 0 (2 ^ 64) p) (λ q. demand LeafChain (eqb q.next 0) q)
 
 -- The layer at a root, with `below` more allowed below it: 31 below the tree's own.
-unfoldable pub layer_c : List ℕ → ℕ → ℕ → Progress → Progress
-layer_c image zero root p = layer_with (λ r q. stop 7) image 31 root p
+unfoldable pub layer_c : List ℕ → ℕ → ℕ → Progress → Checked
+layer_c image zero root p = layer_with (λ r q. Err SlotKey) image 31 root p
 layer_c image (suc below) root p = layer_with (layer_c image below) image (31 - suc below) root p
 
 -- "At the end 3: root's end is not the trailer; 10: key count." 02 [3]: "10 now compares the live count".
-unfoldable pub finish : List ℕ → Progress → Checked
+unfoldable pub finish : List ℕ → Progress → Result Counts Decline
 finish image p =
-    pick (not (eqb p.fault 0)) (Declined p.fault)
-    (pick (not (eqb (p.place + 32) (length image))) (Declined 3)
-    (pick (not (eqb (key_count image) p.live_slots)) (Declined 10) (accepted p.counts)))
+    pick (not (eqb (p.place + 32) (length image))) (Err RecordPlace)
+    (pick (not (eqb (key_count image) p.live_slots)) (Err KeyCount) (Ok p.counts))
 
 -- Before the first record: nothing is counted, and records begin at byte 8.
 abbrev pub begin : Progress
-begin = uncounted 0 8
+begin = uncounted 8
 
 -- THE CHECK.
-unfoldable pub check : List ℕ → Checked
-check image =
-    pick (not (eqb (heading_fault image) 0)) (Declined (heading_fault image)) (finish image (layer_c image 31 (root_offset image) begin))
+unfoldable pub check : List ℕ → Result Counts Decline
+check image = and_then (heading image) (λ _. and_then (layer_c image 31 (root_offset image) begin) (finish image))

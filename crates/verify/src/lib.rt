@@ -1,6 +1,6 @@
 // The check of an image (01, "Check an image"): one pass over the tree in post-order, the first fault deciding.
 //
-// Interface: `check_image`, which takes any byte slice and has no `requires`, and its answer `Checked`. The other functions
+// Interface: `check_image`, which takes any byte slice and has no `requires`, and its answer, `Counts` or a decline. The other functions
 // serve it. Two of them are in a cycle, as 01 names them: checking a subtree calls for checking its layers, and a layer its
 // subtree. All that only reads and tests stands outside the cycle.
 #![tactic(auto)]
@@ -15,173 +15,140 @@ ghost use Rattle.node.specs.Permuter.{size_of};
 ghost use Rattle.verify.specs.Check.{each, slot_c, node_c, check};
 ghost use Rattle.verify.specs.CodeCases.{sub_c, LeafTold, Bounded, Sized};
 
+use base::Decline;
+use node::leaf::LeafReader;
 use node::permuter::Position;
-use node::{internode, leaf, permuter, trailer};
+use node::{internode, permuter, trailer};
+use slot::Slots;
 
 // The three numbers of an accepted image.
-#[derive(Clone, Copy)]
+#[derive(Clone, Copy, Debug, PartialEq, Eq)]
 pub struct Counts {
     pub leaves: usize,
     pub value_slots: usize,
     pub sub_layers: usize,
 }
 
-// The check's answer: the numbers of an accepted image, or the number of the first fault.
-#[derive(Clone, Copy)]
-pub enum Checked {
-    Accepted {
-        leaves: usize,
-        value_slots: usize,
-        sub_layers: usize,
-    },
-    Declined(u8),
-}
-
 // How far the check has come: the place reached; the leaf that the last one names as its next; what was counted, and how many
-// of the value slots are live; the number of the fault that ended the check, or 0; and whether this layer has had a leaf. The
-// two small fields stand last: between wide ones the gaps behind them would be copied, which took two thirds of the check's time.
-#[derive(Clone, Copy)]
+// of the value slots are live; and whether this layer has had a leaf. The small field stands last: between wide ones the gap
+// behind it would be copied, which took two thirds of the check's time.
+#[derive(Clone, Copy, Debug, PartialEq, Eq)]
 pub struct Progress {
     pub place: usize,
     pub next: u64,
     pub counts: Counts,
     pub live_slots: usize,
-    pub fault: u8,
     pub chained: bool,
 }
 
-// What a record comes to on being reached: its kind, or the number of a fault.
-#[derive(Clone, Copy)]
-pub enum RecordCheck {
-    Leaf,
-    Internode,
-    Fault(u8),
+// The ikeys of a subtree lie from lo to `top`.
+#[derive(Clone, Copy, Debug, PartialEq, Eq)]
+pub struct Ends {
+    pub lo: u64,
+    pub top: u64,
 }
 
-// What a used slot comes to: a layer to be checked, whose root is given; the progress past a value slot; or a fault's number.
-#[derive(Clone, Copy)]
+// What a record is, on being reached.
+#[derive(Clone, Copy, Debug, PartialEq, Eq)]
+pub enum RecordKind {
+    Leaf,
+    Internode,
+}
+
+// What a used slot comes to: a layer to be checked, whose root is given; or the progress past a value slot.
+#[derive(Clone, Copy, Debug, PartialEq, Eq)]
 pub enum SlotCheck {
     Layer(u64),
     Passed(Progress),
-    Fault(u8),
 }
 
-// The check of any bytes: their number of leaves, value slots and sub-layers, or the number of the first fault.
-pub fn check_image(image: &[u8]) -> Checked
+// The check of any bytes: their number of leaves, value slots and sub-layers, or the first fault.
+pub fn check_image(image: &[u8]) -> Result<Counts, Decline>
     ensures { result ≡ check image.now }
 {
-    let fault = trailer::heading_fault(image);
-    if fault != 0 {
-        return Checked::Declined(fault);
-    }
+    trailer::check_heading(image)?;
     let q = check_subtree(
         image,
         31,
         12,
         trailer::root(image),
-        0,
-        LAST_IKEY,
+        LAYER_ENDS,
         pass::begin(),
-    );
-    pass::finish(image, pass::end_layer(q))
+    )?;
+    pass::finish(image, pass::end_layer(q)?)
 }
 
-// The greatest ikey.
-const LAST_IKEY: u64 = 18446744073709551615;
+// A layer's ends.
+const LAYER_ENDS: Ends = Ends {
+    lo: 0,
+    top: 18446744073709551615,
+};
 
-// The subtree at an offset, in a layer that `below` more may lie below, with `path` internodes left on a path; its ikeys lie
-// from lo to `top`.
+// The subtree at an offset, in a layer that `below` more may lie below, with `path` internodes left on a path.
 #[cycle(check_layers_check_subtree)]
 fn check_subtree(
     image: &[u8],
     below: usize,
     path: usize,
     at: u64,
-    lo: u64,
-    top: u64,
-    p: Progress,
-) -> Progress
+    ends: Ends,
+    mut p: Progress,
+) -> Result<Progress, Decline>
     requires sized { Sized image.now }
     requires below_bound { below ≤ 31 }
     requires bounded { Bounded (15 * (31 - below)) p }
-    ensures { result ≡ node_c (sub_c image.now below) image.now (31 - below) path at lo (top + 1) p }
+    ensures { result ≡ node_c (sub_c image.now below) image.now (31 - below) path at ends.lo (ends.top + 1) p }
 {
-    let found = record::record_check(image, path, at, lo, top, p);
+    let kind = record::record_check(image, path, at, ends, p)?;
     let place = at as usize;
-    match found {
-        RecordCheck::Fault(n) => pass::stopped(n),
-        RecordCheck::Leaf => pass::end_leaf(
-            image,
-            place,
-            check_layers(image, below, place, lo, top, p),
-        ),
-        RecordCheck::Internode => {
-            let n = record::child_count(image, place);
-            let mut sofar = p;
-            let mut i = 0;
-            while i < n {
+    match kind {
+        RecordKind::Leaf => {
+            let slots = check_layers(image, below, place, ends, p)?;
+            pass::end_leaf(image, place, slots)
+        }
+        RecordKind::Internode => {
+            for i in 0..record::child_count(image, place) {
                 let child = internode::child(image, place, i);
-                let low = record::low_end(image, place, lo, i);
-                let high = record::high_end(image, place, top, i);
-                sofar = check_subtree(image, below, path - 1, child, low, high, sofar);
-                if sofar.fault != 0 {
-                    return sofar;
-                }
-                i += 1;
+                let child_ends = record::child_ends(image, place, ends, i);
+                p = check_subtree(image, below, path - 1, child, child_ends, p)?;
             }
-            pass::end_record(place, internode::INTERNODE_SIZE, sofar)
+            pass::end_record(place, internode::INTERNODE_SIZE, p)
         }
     }
 }
 
 // The used slots of the leaf at an offset, each layer among them with its subtree.
 #[cycle(check_layers_check_subtree)]
-fn check_layers(image: &[u8], below: usize, at: usize, lo: u64, top: u64, p: Progress) -> Progress
+fn check_layers(
+    image: &[u8],
+    below: usize,
+    at: usize,
+    ends: Ends,
+    mut p: Progress,
+) -> Result<Progress, Decline>
     requires sized { Sized image.now }
     requires below_bound { below ≤ 31 }
     requires leaf_told { LeafTold image.now at }
     requires bounded { Bounded (15 * (31 - below)) p }
-    ensures { result ≡ each (slot_c (sub_c image.now below) image.now (31 - below) at lo (top + 1)) 0 (size_of (permutation_at image.now at)) p }
+    ensures { result ≡ each (slot_c (sub_c image.now below) image.now (31 - below) at ends.lo (ends.top + 1)) 0 (size_of (permutation_at image.now at)) p }
 {
-    let permutation = leaf::permutation(image, at);
-    let n = permuter::size(permutation);
-    let mut sofar = p;
-    let mut i = 0;
-    while i < n {
-        let found = slot::slot_check(
-            image,
-            permutation,
-            31 - below,
-            at,
-            lo,
-            top,
-            Position(i),
-            sofar,
-        );
-        match found {
-            SlotCheck::Fault(k) => {
-                return pass::stopped(k);
-            }
-            SlotCheck::Passed(q) => {
-                sofar = q;
-            }
+    let leaf = LeafReader { image, at };
+    let slots = Slots {
+        leaf,
+        permutation: leaf.permutation(),
+        depth: 31 - below,
+        ends,
+    };
+    for i in 0..permuter::size(slots.permutation) {
+        let found = slots.check(Position(i), p)?;
+        p = match found {
+            SlotCheck::Passed(q) => q,
             SlotCheck::Layer(root) => {
-                let q = check_subtree(
-                    image,
-                    below - 1,
-                    12,
-                    root,
-                    0,
-                    LAST_IKEY,
-                    pass::enter_layer(sofar),
-                );
-                sofar = pass::leave_layer(sofar, pass::end_layer(q));
+                let inside = pass::enter_layer(p);
+                let q = check_subtree(image, below - 1, 12, root, LAYER_ENDS, inside)?;
+                pass::leave_layer(p, pass::end_layer(q)?)
             }
-        }
-        if sofar.fault != 0 {
-            return sofar;
-        }
-        i += 1;
+        };
     }
-    sofar
+    Ok(p)
 }

@@ -1,8 +1,12 @@
 -- Placing a walk, over any bytes (01, "Place a walk").
-use Rattle.base.specs.Kit.{not, List, ℕ, ltb, eqb, length}
+use Rattle.std.specs.Prelude.{Option, None, Some, Result, Ok, Err}
+use Rattle.base.specs.Kit.{List, ℕ, ltb, length}
 use Rattle.base.specs.Pick.{pick}
+use Rattle.base.specs.Decline.{number_of, and_then}
+use Rattle.base.specs.declared.Decline.{Decline}
+use Rattle.base.specs.declared.Decline.TheVariants.{CursorLength, BoundKind, BoundLength}
 use Rattle.node.specs.Layout.{root_offset}
-use Rattle.node.specs.Heading.{heading_fault}
+use Rattle.node.specs.Heading.{heading}
 use Rattle.cursor.specs.CursorKey.{from_slice}
 use Rattle.cursor.specs.RangeBound.{bound_of}
 use Rattle.walk.specs.Types.{StartMode, Above, From, WalkState, Start, Retry, Walk, Placed}
@@ -10,10 +14,10 @@ use Rattle.walk.specs.Walk.{new_walk, zero_walk}
 
 -- "1, 2 as above; 11: ..; 12: kind over 2; 13: bound key over 256 bytes, for kind 0 too"; 02 [1]: "11 now means over 256 bytes, same
 -- place".
-unfoldable pub place_fault : List ℕ → List ℕ → ℕ → List ℕ → ℕ
-place_fault image key kind bound =
-    pick (not (eqb (heading_fault image) 0)) (heading_fault image)
-    (pick (ltb 256 (length key)) 11 (pick (ltb 2 kind) 12 (pick (ltb 256 (length bound)) 13 0)))
+unfoldable pub placing : List ℕ → List ℕ → ℕ → List ℕ → Result Unit Decline
+placing image key kind bound =
+    and_then (heading image)
+    (λ seen. pick (ltb 256 (length key)) (Err CursorLength) (pick (ltb 2 kind) (Err BoundKind) (pick (ltb 256 (length bound)) (Err BoundLength) (Ok tt))))
 
 -- "the state set to Retry"; "Mode from adds a Start move in place of the first Retry". 02 [1]: "Up to eight bytes nothing changes.
 -- Past eight, one Start move is made for the root ..", "in both modes".
@@ -28,10 +32,22 @@ unfoldable pub fresh_walk : List ℕ → StartMode → List ℕ → ℕ → List
 fresh_walk image mode key kind bound =
     new_walk (length image) (root_offset image) (from_slice key) (bound_of kind bound) mode (start_state mode (length key))
 
+-- a decline's number, 0 for none
+unfoldable pub number_if : Option Decline → ℕ
+number_if None = 0
+number_if (Some d) = number_of d
+
+-- "a declined placing gives the all-zero walk, ended"
+abbrev pub placed_by : Result Unit Decline → Walk → Placed
+placed_by (Ok seen) w = record { declined = None; walk = w }
+placed_by (Err d) w = record { declined = Some d; walk = zero_walk }
+
 unfoldable pub place : List ℕ → StartMode → List ℕ → ℕ → List ℕ → Placed
-place image mode key kind bound =
-    pick (not (eqb (place_fault image key kind bound) 0)) (record { code = place_fault image key kind bound; walk = zero_walk })
-    (record { code = 0; walk = fresh_walk image mode key kind bound })
+place image mode key kind bound = placed_by (placing image key kind bound) (fresh_walk image mode key kind bound)
+
+-- "A declined call returns its number": a placing's, 0 where it is not declined.
+unfoldable pub code_of : Placed → ℕ
+code_of p = number_if p.declined
 
 -- "A short form has no start mode"; 02 [6]: "From now on it means from."
 unfoldable pub place_short : List ℕ → List ℕ → ℕ → List ℕ → Placed

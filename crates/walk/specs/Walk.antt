@@ -1,31 +1,31 @@
 -- A walk between calls, over any record: what a step's answer says, the walk that has made no move, and the range of a walk's numbers
 -- (01, "Place a walk", "Step a walk").
-use Rattle.std.specs.Prelude.{◌&&◌, ◌∷◌, ◌+◌, ◌*◌}
+use Rattle.std.specs.Prelude.{◌&&◌, ◌∷◌, ◌+◌, ◌*◌, Some, None, Ok, Err}
+use Rattle.base.specs.Decline.{number_of as decline_number}
 use Rattle.base.specs.Kit.{Bool, List, [], ℕ, leb, eqb, replicate}
-use Rattle.walk.specs.Types.{CursorKey, RangeBound, StartMode, Above, LayerContext, WalkState, Ended, HandedOut, Walk, Answer, Key, Nothing, Declined}
+use Rattle.walk.specs.Types.{CursorKey, RangeBound, StartMode, Above, LayerContext, WalkState, Ended, HandedOut, Walk, WalkNumbers, Answer}
 
 -- WHAT AN ANSWER SAYS: 01's number of it, 0 where the step was not declined; how many keys are out, one or none; the key's length and its
 -- value: "None has key length 0 and value 0", and a declined call "returns its number, zero elsewhere". Every promise about an answer is
 -- made by these four.
 unfoldable pub number_of : Answer → ℕ
-number_of (Key len value) = 0
-number_of Nothing = 0
-number_of (Declined n) = n
+number_of (Ok a) = 0
+number_of (Err d) = decline_number d
 
 unfoldable pub keys_of : Answer → ℕ
-keys_of (Key len value) = 1
-keys_of Nothing = 0
-keys_of (Declined n) = 0
+keys_of (Ok (Some k)) = 1
+keys_of (Ok None) = 0
+keys_of (Err d) = 0
 
 unfoldable pub len_of : Answer → ℕ
-len_of (Key len value) = len
-len_of Nothing = 0
-len_of (Declined n) = 0
+len_of (Ok (Some k)) = k.len
+len_of (Ok None) = 0
+len_of (Err d) = 0
 
 unfoldable pub value_of : Answer → ℕ
-value_of (Key len value) = value
-value_of Nothing = 0
-value_of (Declined n) = 0
+value_of (Ok (Some k)) = k.value
+value_of (Ok None) = 0
+value_of (Err d) = 0
 
 -- WHAT A WALK HAS HANDED OUT. 02 [13]: "the depth at which the last key was found and how many have been handed out so far; depth is 0
 -- and the count 0 before the first".
@@ -69,8 +69,23 @@ zero_walk =
 -- THE RANGE OF ITS NUMBERS. "21: image length is not the one placed over, or the walk's numbers are out of range (depth over 31, cursor offset not
 -- 8 × depth, offset plus length over 256, position over 15, kind over 2, bound length over 256)." 02 [13]: "21 also covers a last depth over
 -- 31 or a count above the image's length."
+unfoldable pub in_range : WalkNumbers → ℕ → Bool
+in_range m n =
+    eqb m.image_len n && leb m.depth 31 && eqb m.offset (8 * m.depth) && leb (m.offset + m.len) 256 && leb m.position 15 && leb m.kind 2
+    && leb m.bound_len 256 && leb m.last_depth 31 && leb m.count n
+
+abbrev pub numbers_in : Walk → WalkNumbers
+numbers_in w = record {
+  image_len = w.image_len;
+  depth = w.depth;
+  offset = w.cursor.offset;
+  len = w.cursor.len;
+  position = w.position.0;
+  kind = w.bound.kind;
+  bound_len = w.bound.len;
+  last_depth = w.handed.depth;
+  count = w.handed.count;
+}
+
 unfoldable pub walk_ok : Walk → ℕ → Bool
-walk_ok w n =
-    eqb w.image_len n && (leb w.depth 31 && (eqb w.cursor.offset (8 * w.depth) && (leb (w.cursor.offset + w.cursor.len) 256
-    && (leb w.position.0 15 && (leb w.bound.kind 2 && (leb w.bound.len 256
-    && (leb w.handed.depth 31 && leb w.handed.count n)))))))
+walk_ok w n = in_range (numbers_in w) n

@@ -2,20 +2,21 @@
 ghost use Rattle.std.specs.Prelude.{◌≡◌};
 ghost use Rattle.walk.specs.Walk.{number_of, answer_numbers};
 
-use crate::scan_state::{Answer, HandedOut};
+use crate::scan_state::{Answer, HandedOut, KeyOut};
 
 // Its number, 0 where the step was not declined.
+#[tactic(auto, unfolding(crate::specs::Walk::number_of))]
 pub fn answer_number(answer: Answer) -> u8
     ensures { result ≡ number_of answer }
 {
     match answer {
-        Answer::Key { len: _, value: _ } => 0,
-        Answer::Nothing => 0,
-        Answer::Declined(n) => n,
+        Ok(_) => 0,
+        Err(decline) => u8::from(decline),
     }
 }
 
 // Its keys, key length and value, the moves, and the depth and the count of what the walk has handed out.
+#[tactic(auto, unfolding(crate::specs::Walk::answer_numbers, crate::specs::Walk::keys_of, crate::specs::Walk::len_of, crate::specs::Walk::value_of))]
 pub fn answer_numbers(answer: Answer, moves: usize, handed: HandedOut) -> [u64; 6]
     ensures { result ≡ answer_numbers answer moves handed }
 {
@@ -23,8 +24,7 @@ pub fn answer_numbers(answer: Answer, moves: usize, handed: HandedOut) -> [u64; 
     let depth = handed.depth as u64;
     let count = handed.count as u64;
     match answer {
-        Answer::Key { len, value } => [1, len as u64, value, n, depth, count],
-        Answer::Nothing => [0, 0, 0, n, depth, count],
-        Answer::Declined(_) => [0, 0, 0, n, depth, count],
+        Ok(Some(KeyOut { len, value })) => [1, len as u64, value, n, depth, count],
+        Ok(None) | Err(_) => [0, 0, 0, n, depth, count],
     }
 }

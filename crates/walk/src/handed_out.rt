@@ -17,7 +17,7 @@ pub fn one_more(handed: HandedOut, depth: usize) -> HandedOut
     ensures { result ≡ one_more handed depth }
 {
     HandedOut {
-        depth: depth,
+        depth,
         count: handed.count + 1,
     }
 }

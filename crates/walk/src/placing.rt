@@ -1,10 +1,11 @@
 // Placing a walk (01, "Place a walk"): `place` and its short form take anything.
-ghost use Rattle.std.specs.Prelude.{◌≡◌};
+ghost use Rattle.std.specs.Prelude.{◌≡◌, Ok};
 ghost use Rattle.walk.specs.Walk.{new_walk, zero_walk};
-ghost use Rattle.walk.specs.Placing.{place_fault, start_state, fresh_walk, place, place_short};
+ghost use Rattle.walk.specs.Placing.{placing, start_state, fresh_walk, code_of, place, place_short};
 
 use crate::handed_out;
 use crate::scan_state::{LayerContext, Placed, Walk, WalkState};
+use base::Decline;
 use cursor::cursor_key::CursorKey;
 use cursor::range_bound::{RangeBound, StartMode};
 use cursor::{cursor_key, range_bound};
@@ -23,21 +24,22 @@ fn new_walk(
     ensures { result ≡ new_walk image_len root cursor bound mode state }
 {
     Walk {
-        image_len: image_len,
-        root: root,
+        image_len,
+        root,
         leaf: 0,
         position: Position(0),
-        cursor: cursor,
+        cursor,
         depth: 0,
         stack: [LayerContext { root: 0, leaf: 0 }; 31],
-        bound: bound,
-        mode: mode,
-        state: state,
+        bound,
+        mode,
+        state,
         handed: handed_out::nothing_yet(),
     }
 }
 
 // The walk of a declined placing: all zero, ended.
+#[tactic(auto, unfolding(crate::specs::Walk::zero_walk))]
 fn zero_walk() -> Walk
     ensures { result ≡ zero_walk }
 {
@@ -55,27 +57,26 @@ fn zero_walk() -> Walk
     new_walk(0, 0, cursor, bound, StartMode::Above, WalkState::Ended)
 }
 
-// 01's numbers of a placing, in their order; 0 where none is met.
-fn place_fault(image: &[u8], cursor: &[u8], kind: u8, bound: &[u8]) -> u8
-    ensures { result ≡ place_fault image.now cursor.now kind bound.now }
+// Why a placing is declined: 01's numbers of it, in their order.
+#[tactic(auto, using(std::proofs::lemmas::Bool::Decides::nat_tests), unfolding(crate::specs::Placing::placing, base::specs::Decline::and_then, base::specs::Pick::pick))]
+pub fn check_placing(image: &[u8], cursor: &[u8], kind: u8, bound: &[u8]) -> Result<(), Decline>
+    ensures { result ≡ placing image.now cursor.now kind bound.now }
 {
-    let heading = trailer::heading_fault(image);
-    if heading != 0 {
-        return heading;
-    }
+    trailer::check_heading(image)?;
     if 256 < cursor.len() {
-        return 11;
+        return Err(Decline::CursorLength);
     }
     if 2 < kind {
-        return 12;
+        return Err(Decline::BoundKind);
     }
     if 256 < bound.len() {
-        return 13;
+        return Err(Decline::BoundLength);
     }
-    0
+    Ok(())
 }
 
 // The state of a walk whose cursor has n bytes: past eight Start in both modes.
+#[tactic(auto, using(std::proofs::lemmas::Bool::Decides::nat_tests), unfolding(crate::specs::Placing::start_state, base::specs::Pick::pick))]
 fn start_state(mode: StartMode, n: usize) -> WalkState
     ensures { result ≡ start_state mode n }
 {
@@ -89,8 +90,9 @@ fn start_state(mode: StartMode, n: usize) -> WalkState
 }
 
 // The walk of a placing that is not declined.
+#[tactic(auto, unfolding(crate::specs::Placing::fresh_walk))]
 fn fresh_walk(image: &[u8], mode: StartMode, cursor: &[u8], kind: u8, bound: &[u8]) -> Walk
-    requires { place_fault image.now cursor.now kind bound.now ≡ 0 }
+    requires { placing image.now cursor.now kind bound.now ≡ Ok tt }
     ensures { result ≡ fresh_walk image.now mode cursor.now kind bound.now }
 {
     new_walk(
@@ -103,24 +105,38 @@ fn fresh_walk(image: &[u8], mode: StartMode, cursor: &[u8], kind: u8, bound: &[u
     )
 }
 
+impl Placed {
+    // Its number, 0 where it is not declined.
+    #[tactic(auto, unfolding(crate::specs::Placing::code_of, crate::specs::Placing::number_if))]
+    pub fn code(&self) -> u8
+        ensures { result ≡ code_of self.now }
+    {
+        match self.declined {
+            None => 0,
+            Some(decline) => u8::from(decline),
+        }
+    }
+}
+
 // A walk over an image, above a cursor or from it on, up to a bound. Declined with 1, 2, 11, 12 or 13, and then the all-zero walk.
+#[tactic(auto, unfolding(crate::specs::Placing::place))]
 pub fn place(image: &[u8], mode: StartMode, cursor: &[u8], kind: u8, bound: &[u8]) -> Placed
     ensures { result ≡ place image.now mode cursor.now kind bound.now }
 {
-    let code = place_fault(image, cursor, kind, bound);
-    if code != 0 {
-        return Placed {
-            code: code,
+    match check_placing(image, cursor, kind, bound) {
+        Ok(()) => Placed {
+            declined: None,
+            walk: fresh_walk(image, mode, cursor, kind, bound),
+        },
+        Err(decline) => Placed {
+            declined: Some(decline),
             walk: zero_walk(),
-        };
-    }
-    Placed {
-        code: 0,
-        walk: fresh_walk(image, mode, cursor, kind, bound),
+        },
     }
 }
 
 // The short form: no start mode, and it means from. A key that equals the cursor is handed out too.
+#[tactic(auto, unfolding(crate::specs::Placing::place_short))]
 pub fn place_short(image: &[u8], cursor: &[u8], kind: u8, bound: &[u8]) -> Placed
     ensures { result ≡ place_short image.now cursor.now kind bound.now }
 {

@@ -1,17 +1,18 @@
 // What a walk keeps between calls, and what its calls answer (the Rust's scan_state.rs).
+use base::Decline;
 use cursor::cursor_key::CursorKey;
 use cursor::range_bound::{RangeBound, StartMode};
 use node::permuter::Position;
 
 // A layer that the walk has entered: the root and the leaf of the layer above.
-#[derive(Clone, Copy)]
+#[derive(Clone, Copy, Debug, PartialEq, Eq)]
 pub struct LayerContext {
     pub root: u64,
     pub leaf: u64,
 }
 
 // A walk's state between calls.
-#[derive(Clone, Copy)]
+#[derive(Clone, Copy, Debug, PartialEq, Eq)]
 pub enum WalkState {
     Start,
     Retry,
@@ -20,7 +21,7 @@ pub enum WalkState {
 }
 
 // What a walk has handed out: the depth at which the last key was found, and how many keys; zeros before the first.
-#[derive(Clone, Copy)]
+#[derive(Clone, Copy, Debug, PartialEq, Eq)]
 pub struct HandedOut {
     pub depth: usize,
     pub count: usize,
@@ -42,20 +43,22 @@ pub struct Walk {
     pub handed: HandedOut,
 }
 
-// A placing: 01's number, 0 where it was not declined, and the walk.
+// A placing: why it is declined, if it is, and the walk.
 #[derive(Clone, Copy)]
 pub struct Placed {
-    pub code: u8,
+    pub declined: Option<Decline>,
     pub walk: Walk,
 }
 
-// A step's answer: a key, whose bytes are the first `len` of the walk's buffer, with its value; none; or 01's number.
-#[derive(Clone, Copy)]
-pub enum Answer {
-    Key { len: usize, value: u64 },
-    Nothing,
-    Declined(u8),
+// A key that is out: its bytes are the first `len` of the walk's buffer.
+#[derive(Clone, Copy, Debug, PartialEq, Eq)]
+pub struct KeyOut {
+    pub len: usize,
+    pub value: u64,
 }
+
+// A step's answer: a key or none, where the step is not declined.
+pub type Answer = Result<Option<KeyOut>, Decline>;
 
 // A step: its answer, its moves, what the walk has handed out with it (zeros where the step is declined), and the walk after it.
 #[derive(Clone, Copy)]

@@ -1,6 +1,5 @@
 -- The lemma files of this crate; `Inverse` is a theorem.
 pub mod Tabled
-pub mod Copies
 pub mod Turns
 pub mod Told
 pub mod Inverse

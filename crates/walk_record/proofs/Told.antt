@@ -11,9 +11,12 @@ pub record Lengths (numbers buf bound : ℕ) : Type 0 where
 pub sized_told : (numbers buf bound : ℕ) → sized numbers buf bound ≡ true → Lengths numbers buf bound
 unfolding sized
 sized_told numbers buf bound e =
-    let n = (and-eq-true_iff _ _).0 e in
-    let b = (and-eq-true_iff _ _).0 n.1 in
-    record { numbers-is = eqb-true _ _ n.0; buf-is = eqb-true _ _ b.0; bound-is = eqb-true _ _ b.1 }
+    let k = (and-eq-true_iff _ _).0 e in
+    let n = (and-eq-true_iff _ _).0 k.0 in
+    record { numbers-is = eqb-true _ _ n.0; buf-is = eqb-true _ _ n.1; bound-is = eqb-true _ _ k.1 }
+
+pub sized_long : (numbers buf bound : ℕ) → sized numbers buf bound ≡ true → numbers ≡ 76
+sized_long numbers buf bound e = (sized_told numbers buf bound e).numbers-is
 
 -- the record is a walk's
 pub record Told (numbers buf bound : List ℕ) : Type 0 where
@@ -25,7 +28,7 @@ pub record Told (numbers buf bound : List ℕ) : Type 0 where
 pub record_told : (numbers buf bound : List ℕ) → is_record numbers buf bound ≡ true → Told numbers buf bound
 unfolding is_record
 record_told numbers buf bound e =
-    let n = (and-eq-true_iff _ _).0 e in
-    let b = (and-eq-true_iff _ _).0 n.1 in
-    let s = (and-eq-true_iff _ _).0 b.1 in
-    record { lengths = sized_told _ _ _ n.0; kind_fits = leb-true _ _ b.0; state-fits = leb-true _ _ s.0; mode-fits = leb-true _ _ s.1 }
+    let m = (and-eq-true_iff _ _).0 e in
+    let s = (and-eq-true_iff _ _).0 m.0 in
+    let k = (and-eq-true_iff _ _).0 s.0 in
+    record { lengths = sized_told _ _ _ k.0; kind_fits = leb-true _ _ k.1; state-fits = leb-true _ _ s.1; mode-fits = leb-true _ _ m.1 }

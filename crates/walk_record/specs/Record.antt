@@ -110,9 +110,10 @@ read_walk numbers buf bound = record {
 
 -- The three lengths of a record.
 unfoldable pub sized : ℕ → ℕ → ℕ → Bool
-sized numbers buf bound = eqb numbers numbers_in && (eqb buf 256 && eqb bound 256)
+sized numbers buf bound = eqb numbers numbers_in && eqb buf 256 && eqb bound 256
 
 -- Whether a record is a walk's: its lengths, a kind that is a byte, one of the four states, and one of the two start modes.
 unfoldable pub is_record : List ℕ → List ℕ → List ℕ → Bool
 is_record numbers buf bound =
-    sized (length numbers) (length buf) (length bound) && (leb (get_or numbers kind_at 0) 255 && (leb (get_or numbers state_at 0) 3 && leb (get_or numbers mode_at 0) 1))
+    sized (length numbers) (length buf) (length bound) && leb (get_or numbers kind_at 0) 255 && leb (get_or numbers state_at 0) 3
+    && leb (get_or numbers mode_at 0) 1

@@ -11,109 +11,83 @@ use node::permuter::Position;
 use walk::scan_state::{HandedOut, LayerContext, Walk, WalkState};
 
 // Whether the three lengths are a record's.
+#[tactic(auto, using(std::proofs::lemmas::Bool::Decides::nat_tests), unfolding(crate::specs::Record::sized))]
 pub fn is_sized(numbers: usize, buf: usize, bound: usize) -> bool
     ensures { result ≡ sized numbers buf bound }
 {
-    if numbers != layout::NUMBERS {
-        return false;
-    }
-    if buf != 256 {
-        return false;
-    }
-    bound == 256
+    numbers == layout::NUMBERS && buf == 256 && bound == 256
 }
 
 // Whether a record is a walk's.
+#[tactic(auto, using(std::proofs::lemmas::Bool::Decides::nat_tests, crate::proofs::Told::sized_long), unfolding(crate::specs::Record::is_record))]
 pub fn is_record(numbers: &[u64], buf: &[u8], bound: &[u8]) -> bool
     ensures { result ≡ is_record numbers.now buf.now bound.now }
 {
-    if numbers.len() != layout::NUMBERS {
-        return false;
-    }
-    if buf.len() != 256 {
-        return false;
-    }
-    if bound.len() != 256 {
-        return false;
-    }
-    if 255 < numbers[layout::KIND] {
-        return false;
-    }
-    if 3 < numbers[layout::STATE] {
-        return false;
-    }
-    numbers[layout::MODE] <= 1
+    is_sized(numbers.len(), buf.len(), bound.len())
+        && numbers[layout::KIND] <= 255
+        && numbers[layout::STATE] <= 3
+        && numbers[layout::MODE] <= 1
 }
 
+#[tactic(auto, unfolding(crate::specs::Record::mode_number))]
 fn mode_number(mode: StartMode) -> u64
     ensures { result ≡ mode_number mode }
 {
-    match mode {
-        StartMode::Above => 0,
-        StartMode::From => 1,
-    }
+    mode as u64
 }
 
+// Of any number, as a record may hold it: `is_record` tells which are a mode's.
+#[tactic(auto, using(std::proofs::lemmas::Bool::Decides::nat_tests), unfolding(crate::specs::Record::mode_of, base::specs::Pick::pick))]
 fn mode_of(n: u64) -> StartMode
     ensures { result ≡ mode_of n }
 {
-    if n == 0 {
-        return StartMode::Above;
+    match n {
+        0 => StartMode::Above,
+        _ => StartMode::From,
     }
-    StartMode::From
 }
 
+#[tactic(auto, unfolding(crate::specs::Record::state_number))]
 pub fn state_number(state: WalkState) -> u64
     ensures { result ≡ state_number state }
 {
-    match state {
-        WalkState::Start => 0,
-        WalkState::Retry => 1,
-        WalkState::FindNext => 2,
-        WalkState::Ended => 3,
-    }
+    state as u64
 }
 
+// Of any number too.
+#[tactic(auto, using(std::proofs::lemmas::Bool::Decides::nat_tests), unfolding(crate::specs::Record::state_of, base::specs::Pick::pick))]
 fn state_of(n: u64) -> WalkState
     ensures { result ≡ state_of n }
 {
-    if n == 0 {
-        return WalkState::Start;
+    match n {
+        0 => WalkState::Start,
+        1 => WalkState::Retry,
+        2 => WalkState::FindNext,
+        _ => WalkState::Ended,
     }
-    if n == 1 {
-        return WalkState::Retry;
-    }
-    if n == 2 {
-        return WalkState::FindNext;
-    }
-    WalkState::Ended
 }
 
 // The walk's numbers before the stack's, which are zero yet.
+#[tactic(auto, unfolding(crate::specs::CodeLaid::head_of))]
 fn head_of(walk: Walk) -> [u64; layout::NUMBERS]
     ensures { result ≡ head_of walk }
 {
-    let p = walk.position;
     let k = walk.cursor;
-    let b = walk.bound;
-    let state = walk.state;
-    let mode = walk.mode;
-    let h = walk.handed;
     let mut n = [0u64; layout::NUMBERS];
     n[layout::IMAGE_LEN] = walk.image_len as u64;
     n[layout::ROOT] = walk.root;
     n[layout::LEAF] = walk.leaf;
-    n[layout::POSITION] = p.0 as u64;
+    n[layout::POSITION] = walk.position.0 as u64;
     n[layout::OFFSET] = k.offset as u64;
     n[layout::LEN] = k.len as u64;
     n[layout::IKEY] = k.ikey;
     n[layout::DEPTH] = walk.depth as u64;
-    n[layout::KIND] = b.kind as u64;
-    n[layout::BOUND_LEN] = b.len as u64;
-    n[layout::STATE] = state_number(state);
-    n[layout::MODE] = mode_number(mode);
-    n[layout::LAST_DEPTH] = h.depth as u64;
-    n[layout::COUNT] = h.count as u64;
+    n[layout::KIND] = u64::from(walk.bound.kind);
+    n[layout::BOUND_LEN] = walk.bound.len as u64;
+    n[layout::STATE] = state_number(walk.state);
+    n[layout::MODE] = mode_number(walk.mode);
+    n[layout::LAST_DEPTH] = walk.handed.depth as u64;
+    n[layout::COUNT] = walk.handed.count as u64;
     n
 }
 
@@ -121,14 +95,10 @@ fn head_of(walk: Walk) -> [u64; layout::NUMBERS]
 fn numbers_of(walk: Walk) -> [u64; layout::NUMBERS]
     ensures { result ≡ numbers_of walk }
 {
-    let stack = walk.stack;
     let mut n = head_of(walk);
-    let mut i = 0;
-    while i < 31 {
-        let e = stack[i];
+    for (i, e) in walk.stack.iter().enumerate() {
         n[layout::STACK + 2 * i] = e.root;
         n[layout::STACK + 1 + 2 * i] = e.leaf;
-        i += 1;
     }
     n
 }
@@ -138,19 +108,7 @@ pub fn copy_words(to: &mut [u64], s: &[u64])
     requires { length to.old ≡ length s.now }
     ensures { to.new ≡ s.now }
 {
-    let mut i = 0;
-    while i < s.len() {
-        to[i] = s[i];
-        i += 1;
-    }
-}
-
-// The bytes of s into a slice of the same length.
-fn copy_bytes(to: &mut [u8], s: &[u8])
-    requires { length to.old ≡ length s.now }
-    ensures { to.new ≡ s.now }
-{
-    key::copy_in(to, 0, s);
+    to.copy_from_slice(s);
 }
 
 // A walk's numbers and its cursor's buffer into a record, whose bound stays.
@@ -159,10 +117,8 @@ pub fn put_moved(walk: Walk, numbers: &mut [u64], buf: &mut [u8])
     requires buf_len { length buf.old ≡ 256 }
     ensures { (numbers.new ≡ numbers_of walk) × (buf.new ≡ walk.cursor.buf) }
 {
-    let n = numbers_of(walk);
-    let k = walk.cursor;
-    copy_words(numbers, &n);
-    copy_bytes(buf, &k.buf);
+    numbers.copy_from_slice(&numbers_of(walk));
+    buf.copy_from_slice(&walk.cursor.buf);
 }
 
 // A walk into a record.
@@ -174,9 +130,8 @@ pub fn put_walk(walk: Walk, numbers: &mut [u64], buf: &mut [u8], bound: &mut [u8
         × (buf.new ≡ walk.cursor.buf)
         × (bound.new ≡ walk.bound.key) }
 {
-    let b = walk.bound;
     put_moved(walk, numbers, buf);
-    copy_bytes(bound, &b.key);
+    bound.copy_from_slice(&walk.bound.key);
 }
 
 fn read_stack(numbers: &[u64]) -> [LayerContext; 31]
@@ -184,15 +139,11 @@ fn read_stack(numbers: &[u64]) -> [LayerContext; 31]
     ensures { result ≡ entries numbers.now 0 31 }
 {
     let mut stack = [LayerContext { root: 0, leaf: 0 }; 31];
-    let mut i = 0;
-    while i < 31 {
-        let root = numbers[layout::STACK + 2 * i];
-        let leaf = numbers[layout::STACK + 1 + 2 * i];
-        stack[i] = LayerContext {
-            root: root,
-            leaf: leaf,
+    for (i, e) in stack.iter_mut().enumerate() {
+        *e = LayerContext {
+            root: numbers[layout::STACK + 2 * i],
+            leaf: numbers[layout::STACK + 1 + 2 * i],
         };
-        i += 1;
     }
     stack
 }
@@ -202,9 +153,12 @@ fn bytes_of(s: &[u8]) -> [u8; 256]
     requires { length s.now ≡ 256 }
     ensures { result ≡ s.now }
 {
-    key::padded(s)
+    let mut bytes = [0u8; 256];
+    bytes.copy_from_slice(s);
+    bytes
 }
 
+#[tactic(auto, unfolding(crate::specs::CodeLaid::read_cursor))]
 fn read_cursor(numbers: &[u64], buf: &[u8]) -> CursorKey
     requires numbers_len { length numbers.now ≡ numbers_in }
     requires buf_len { length buf.now ≡ 256 }
@@ -218,6 +172,7 @@ fn read_cursor(numbers: &[u64], buf: &[u8]) -> CursorKey
     }
 }
 
+#[tactic(auto, unfolding(crate::specs::CodeLaid::read_bound))]
 fn read_bound(numbers: &[u64], bound: &[u8]) -> RangeBound
     requires numbers_len { length numbers.now ≡ numbers_in }
     requires bound_len { length bound.now ≡ 256 }
@@ -232,6 +187,7 @@ fn read_bound(numbers: &[u64], bound: &[u8]) -> RangeBound
 }
 
 // What a record's walk has handed out.
+#[tactic(auto, unfolding(crate::specs::CodeLaid::read_handed))]
 pub fn read_handed(numbers: &[u64]) -> HandedOut
     requires { length numbers.now ≡ numbers_in }
     ensures { result ≡ read_handed numbers.now }
@@ -243,6 +199,7 @@ pub fn read_handed(numbers: &[u64]) -> HandedOut
 }
 
 // The walk of a record.
+#[tactic(auto, unfolding(crate::specs::Record::read_walk, crate::specs::CodeLaid::read_cursor, crate::specs::CodeLaid::read_bound, crate::specs::CodeLaid::read_handed))]
 pub fn read_walk(numbers: &[u64], buf: &[u8], bound: &[u8]) -> Walk
     requires numbers_len { length numbers.now ≡ numbers_in }
     requires buf_len { length buf.now ≡ 256 }

@@ -1,12 +1,13 @@
 -- 01's surveyed examples P1 to P12, as one table and a single claim about the definitions.
-use Rattle.std.specs.Prelude.{◌∷◌, ◌++◌, ◌+◌}
+use Rattle.std.specs.Prelude.{◌∷◌, ◌++◌, ◌+◌, Result}
 use Rattle.base.specs.Kit.{List, [], Option, none, some, ℕ, zero, suc, eqb, length, take, replicate}
+use Rattle.base.specs.declared.Decline.{Decline}
 use Rattle.base.specs.Pick.{pick}
 use Rattle.layering.specs.Keys.{Pair}
 use Rattle.verify.specs.Check.{check, check_number, check_counts}
-use Rattle.verify.specs.declared.Checked.{Checked}
+use Rattle.verify.specs.declared.Counts.{Counts}
 use Rattle.walk.specs.Walk.{number_of, keys_of, len_of, value_of}
-use Rattle.walk.specs.Placing.{place}
+use Rattle.walk.specs.Placing.{code_of, place}
 use Rattle.scan.specs.Machine.{step}
 use Rattle.cursor.specs.declared.range_bound.StartMode.{StartMode}
 use Rattle.cursor.specs.declared.range_bound.StartMode.TheVariants.{Above, From}
@@ -57,7 +58,7 @@ hand (suc n) image w =
     handed_by s rest
 
 -- The check's answer as four numbers.
-unfoldable pub check_numbers : Checked → List ℕ
+unfoldable pub check_numbers : Result Counts Decline → List ℕ
 check_numbers r = check_number r ∷ (check_counts r).leaves ∷ (check_counts r).value_slots ∷ (check_counts r).sub_layers ∷ []
 
 -- 01 gives the moves of some examples only.
@@ -70,8 +71,8 @@ unfoldable pub answered : Example → Placed → Stated
 answered e p =
     let h = hand (length e.says.pairs + 1) e.image p.walk in
     let c = check_numbers (check e.image) in
-    pick (eqb p.code 0) (record { checked = c; number = h.number; pairs = h.pairs; moves = asked e.says.moves h.moves })
-    (record { checked = c; number = p.code; pairs = []; moves = none })
+    pick (eqb (code_of p) 0) (record { checked = c; number = h.number; pairs = h.pairs; moves = asked e.says.moves h.moves })
+    (record { checked = c; number = code_of p; pairs = []; moves = none })
 
 unfoldable pub machine_says : Example → Stated
 machine_says e = answered e (place e.image e.mode e.cursor e.kind e.bound)

@@ -1,37 +1,38 @@
 -- `builder::build` meets its contract: each return is one of the answer's cases.
 use Rattle.std.specs.Prelude.{◌≡◌, ◌+◌}
-use Rattle.base.specs.Kit.{sym, ◌∙◌, arith, rules, length, take, length-take-le}
-use Rattle.builder.proofs.Answered.{sheet_declined, taken, too_long, long, too_short, image-written}
+use Rattle.base.specs.Kit.{refl, sym, ◌∙◌, arith, length, take, length-take-le}
+use Rattle.base.proofs.Declines.{handed_on}
+use Rattle.builder.proofs.Answered.{sheet_declined, taken, size-bound, too_long, long, too_short, image-written}
 use Rattle.builder.proofs.build.Goals as goal
+use Rattle.builder.proofs.build.Goals.{then-end-gt-LONGEST-via-then-end-gt-LONGEST, then-end-gt-LONGEST-via-else-end-gt-LONGEST+then-out-end}
 
-pub returns-then-o-ne0 : goal.returns-then-o-ne0
-returns-then-o-ne0 c = sheet_declined _ _ _ c.read_sheet-o.ensures (λ z. omega (arith, z))
+pub returns-in_err-opened : goal.returns-in_err-opened
+returns-in_err-opened c =
+    rw (handed_on _ _ _ c.from_residual.ensures.1 refl) (sheet_declined _ _ _ c.in_err-opened.ensures)
 
 pub layer_size-size-requires : goal.layer_size-size-requires
-layer_size-size-requires c =
-    let z : c.read_sheet-o.result.number ≡ 0 = search rules in
-    (taken _ _ c.read_sheet-o.ensures z).fit
+layer_size-size-requires c = (taken _ _ c.in_ok-opened.ensures).fit
 
-pub returns-then-size : goal.returns-then-size
-returns-then-size c =
-    let z : c.read_sheet-o.result.number ≡ 0 = search rules in
-    too_long _ _ c.read_sheet-o.ensures z _ c.layer_size-size.ensures (omega arith) _
+pub overflow_add-end : goal.overflow_add-end
+overflow_add-end c = omega (arith, size-bound _ _ c.in_ok-opened.ensures _ c.layer_size-size.ensures)
 
-pub returns-then-out-end : goal.returns-then-out-end
-returns-then-out-end c =
-    let z : c.read_sheet-o.result.number ≡ 0 = search rules in
-    too_short _ _ c.read_sheet-o.ensures z _ c.layer_size-size.ensures (omega arith) _ (omega arith)
-
-pub slice_bounds-write_image-end-2 : goal.slice_bounds-write_image-end-2
-slice_bounds-write_image-end-2 c = sym (length-take-le _ _ (omega arith))
+pub returns-then-end-gt-LONGEST : goal.returns-then-end-gt-LONGEST
+returns-then-end-gt-LONGEST c = elim c.then-end-gt-LONGEST.branch [
+  | then-end-gt-LONGEST-via-then-end-gt-LONGEST w ↦
+      too_long _ _ c.in_ok-opened.ensures _ c.layer_size-size.ensures (omega (arith, w.if-end-gt-LONGEST.true)) _
+  | then-end-gt-LONGEST-via-else-end-gt-LONGEST+then-out-end w ↦
+      too_short _ _ c.in_ok-opened.ensures _ c.layer_size-size.ensures (omega (arith, w.if-end-gt-LONGEST.false)) _ w.if-out-end.true
+]
 
 pub write_image-requires : goal.write_image-requires
 write_image-requires c =
-    let z : c.read_sheet-o.result.number ≡ 0 = search rules in
-    let e = c.read_sheet-o.ensures in
-    let n : length (take (c.layer_size-size.result + 40) c.args.out.now) ≡ c.layer_size-size.result + 40 = length-take-le _ _ (omega arith) in record { fit = (taken _ _ e z).fit; out_len = n ∙ sym (long _ _ e z _ c.layer_size-size.ensures (omega arith)); out_len_bound = omega arith }
+    let e = c.in_ok-opened.ensures in
+    let n : length (take (c.layer_size-size.result + 40) c.args.out.now) ≡ c.layer_size-size.result + 40 = length-take-le _ _ (omega arith) in record {
+      fit = (taken _ _ e).fit;
+      out_len = n ∙ sym (long _ _ e _ c.layer_size-size.ensures (omega arith));
+      out_len_bound = omega arith;
+    }
 
 pub returns : goal.returns
 returns c =
-    let z : c.read_sheet-o.result.number ≡ 0 = search rules in
-    image-written _ _ c.read_sheet-o.ensures z _ c.layer_size-size.ensures (omega arith) _ _ (omega arith) c.write_image.ensures
+    image-written _ _ c.in_ok-opened.ensures _ c.layer_size-size.ensures (omega arith) _ _ (omega arith) c.write_image.ensures

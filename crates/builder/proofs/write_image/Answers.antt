@@ -6,14 +6,14 @@ use Rattle.builder.proofs.write_image.Goals as goal
 pub write_layer-r-requires : goal.write_layer-r-requires
 write_layer-r-requires c =
     let p = c.requires in
-    layers-room _ _ _ p.fit _ p.out_len p.out_len_bound _ c.put_le.ensures
+    layers-room _ _ _ p.fit _ p.out_len p.out_len_bound _ c.put_u64.ensures
 
 pub put_trailer-requires : goal.put_trailer-requires
 put_trailer-requires c =
     let p = c.requires in
-    trailer-room _ _ _ p.fit _ p.out_len p.out_len_bound _ c.put_le.ensures _ _ c.write_layer-r.ensures
+    trailer-room _ _ _ p.fit _ p.out_len p.out_len_bound _ c.put_u64.ensures _ _ c.write_layer-r.ensures
 
 pub returns : goal.returns
 returns c =
     let p = c.requires in
-    image-is _ _ _ p.fit _ p.out_len p.out_len_bound _ c.put_le.ensures _ _ c.write_layer-r.ensures _ (sym p.fit.lines.whole) c.put_trailer.ensures
+    image-is _ _ _ p.fit _ p.out_len p.out_len_bound _ c.put_u64.ensures _ _ c.write_layer-r.ensures _ (sym p.fit.lines.whole) c.put_trailer.ensures

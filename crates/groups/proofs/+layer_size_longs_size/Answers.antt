@@ -2,7 +2,7 @@
 use Rattle.std.specs.Prelude.{◌≡◌}
 use Rattle.base.specs.Kit.{◌∙◌, arith}
 use Rattle.groups.proofs.GroupLaws.{fit-rest, fit-longs}
-use Rattle.groups.proofs.SizeLaws.{capped_most, all_tallied, tallied-none, slots-few, tally_turn, layer_tallied, long-none, long-one, long-more, long_line}
+use Rattle.groups.proofs.SizeLaws.{capped_most, all_tallied, tallied-none, slots-few, tally_turn, layer_tallied, long-none, next_eight, long-one, long-more, long_line}
 use Rattle.groups.proofs.+layer_size_longs_size.Goals as goal
 
 -- A LAYER
@@ -16,15 +16,15 @@ pub layer_size-longs_size-bytes-requires : goal.layer_size-longs_size-bytes-requ
 layer_size-longs_size-bytes-requires t c =
     (omega (arith, c.decreases), fit-longs _ _ _ _ c.loop-rest.invariant.1 c.group_at-g.result c.group_at-g.ensures)
 
-pub layer_size-overflow_add-g : goal.layer_size-overflow_add-g
-layer_size-overflow_add-g t c =
-    omega (arith, c.least.ensures, slots-few _ _ _ _ c.loop-rest.invariant.1 (omega arith) c.group_at-g.result c.group_at-g.ensures)
+pub layer_size-slots-requires : goal.layer_size-slots-requires
+layer_size-slots-requires t c =
+    omega (arith, slots-few _ _ _ _ c.loop-rest.invariant.1 (omega arith) c.group_at-g.result c.group_at-g.ensures)
 
 pub layer_size-counted-t-requires : goal.layer_size-counted-t-requires
 layer_size-counted-t-requires t c = record {
   leaves_bound = c.loop-rest.invariant.2.few;
   bytes_bound = c.loop-rest.invariant.2.small;
-  n_bound = omega (arith, c.least.ensures, slots-few _ _ _ _ c.loop-rest.invariant.1 (omega arith) c.group_at-g.result c.group_at-g.ensures);
+  n_bound = omega (arith, c.slots.ensures, slots-few _ _ _ _ c.loop-rest.invariant.1 (omega arith) c.group_at-g.result c.group_at-g.ensures);
   bytes_bound_2 = capped_most _ _ c.longs_size-bytes.ensures;
 }
 
@@ -41,7 +41,7 @@ pub layer_size-loop-rest-preserved : goal.layer_size-loop-rest-preserved
 layer_size-loop-rest-preserved t c = (
   omega arith,
   fit-rest _ _ _ _ c.loop-rest.invariant.1 c.group_at-g.result c.group_at-g.ensures,
-  rw (c.counted-t.ensures, c.least.ensures)
+  rw (c.counted-t.ensures, c.slots.ensures)
       (tally_turn _ _ _ _ c.loop-rest.invariant.1 (omega arith) c.group_at-g.result c.group_at-g.ensures _ c.loop-rest.t
       _ c.longs_size-bytes.ensures c.loop-rest.invariant.2),
 )
@@ -64,17 +64,18 @@ longs_size-overflow_sub-below t c = omega (arith, c.requires.deep)
 pub longs_size-lowered_at-r-requires : goal.longs_size-lowered_at-r-requires
 longs_size-lowered_at-r-requires t c = record { one_line = long_line _ _ _ _ (omega arith) c.requires; depth_bound = omega arith }
 
-pub longs_size-overflow_sub-result : goal.longs_size-overflow_sub-result
-longs_size-overflow_sub-result t c = omega (arith, (long-one _ _ _ c.lowered_at-r.result c.lowered_at-r.ensures _ (omega arith) c.requires).some)
+pub longs_size-overflow_sub-r : goal.longs_size-overflow_sub-r
+longs_size-overflow_sub-r t c = omega (arith, (long-one _ _ _ c.lowered_at-r.result c.lowered_at-r.ensures _ (omega arith) c.requires).some)
 
-pub longs_size-overflow_add-result : goal.longs_size-overflow_add-result
-longs_size-overflow_add-result t c = omega (arith, (long-one _ _ _ c.lowered_at-r.result c.lowered_at-r.ensures _ (omega arith) c.requires).short)
-
-pub longs_size-overflow_mul-result : goal.longs_size-overflow_mul-result
-longs_size-overflow_mul-result t c = omega (arith, (long-one _ _ _ c.lowered_at-r.result c.lowered_at-r.ensures _ (omega arith) c.requires).short)
+pub longs_size-next_multiple_of-requires : goal.longs_size-next_multiple_of-requires
+longs_size-next_multiple_of-requires t c = record {
+  nonzero = omega arith;
+  fits = omega (arith, (long-one _ _ _ c.lowered_at-r.result c.lowered_at-r.ensures _ (omega arith) c.requires).short);
+}
 
 pub longs_size-returns-then-n-eq1 : goal.longs_size-returns-then-n-eq1
-longs_size-returns-then-n-eq1 t c = (long-one _ _ _ c.lowered_at-r.result c.lowered_at-r.ensures _ (omega arith) c.requires).room
+longs_size-returns-then-n-eq1 t c =
+    c.next_multiple_of.ensures.value ∙ next_eight _ ∙ (long-one _ _ _ c.lowered_at-r.result c.lowered_at-r.ensures _ (omega arith) c.requires).room
 
 pub longs_size-overflow_sub-below-2 : goal.longs_size-overflow_sub-below-2
 longs_size-overflow_sub-below-2 t c = (c.requires.sub (omega arith)).0

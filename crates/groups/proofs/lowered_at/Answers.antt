@@ -1,17 +1,18 @@
 -- `groups::lowered_at` meets its contract.
 use Rattle.std.specs.Prelude.{◌≤◌}
 use Rattle.base.specs.Kit.{arith}
-use Rattle.groups.proofs.LineRead.{line-short, line-lowered}
+use Rattle.groups.proofs.LineRead.{line-some, line-short, line-lowered}
 use Rattle.groups.proofs.lowered_at.Goals as goal
+
+pub unwrap-read-requires : goal.unwrap-read-requires
+unwrap-read-requires c = line-some _ _ _ _ _ c.station_at.ensures c.requires.one_line
 
 pub part_of-requires : goal.part_of-requires
 part_of-requires c =
-    let r = c.station_at-r in
-    let h : r.result.key_len ≤ 256 = line-short _ _ _ _ r.result r.ensures c.requires.one_line in
+    let h : c.unwrap-read.result.key_len ≤ 256 = line-short _ _ _ _ _ c.station_at.ensures c.requires.one_line _ c.unwrap-read.ensures in
     omega arith
 
 pub returns : goal.returns
 returns c =
-    let r = c.station_at-r in
-    line-lowered _ _ _ _ r.result r.ensures c.requires.one_line _ _ _ _
-    (omega arith) c.least-from.ensures c.part_of.ensures c.ikey_of.ensures
+    line-lowered _ _ _ _ _ c.station_at.ensures c.requires.one_line _ c.unwrap-read.ensures _ _ _ _
+    (omega arith) c.min-from.ensures c.part_of.ensures c.ikey_of.ensures

@@ -7,7 +7,7 @@ use Rattle.image_out.proofs.link.Goals as goal
 pub returns-then-prev-ne0 : goal.returns-then-prev-ne0
 unfolding linked pick
 returns-then-prev-ne0 c =
-    rw (ne_eqb c.args.prev 0 c.if-prev-ne0.true) c.put_le.ensures
+    rw (ne_eqb c.args.prev 0 c.if-prev-ne0.true) c.put_u64.ensures
 
 pub returns-else-prev-ne0 : goal.returns-else-prev-ne0
 unfolding linked pick

@@ -7,6 +7,6 @@ pub returns-then-live : goal.returns-then-live
 unfolding pick
 returns-then-live c = rw c.if-live.true (omega arith)
 
-pub returns : goal.returns
+pub returns-else-live : goal.returns-else-live
 unfolding pick
-returns c = rw c.if-live.false (omega arith)
+returns-else-live c = rw c.if-live.false (omega arith)

@@ -10,6 +10,6 @@ pub returns : goal.returns
 returns c =
     let a = c.args in
     let lens = a.lens.now in
-    let w : words 1 15 lens ≡ lens = rw (← c.requires.lens_len) (byte-words lens (λ i h. (c.type_inv.lens i).fits)) in
+    let w : words 1 15 lens ≡ lens = rw (← c.told-lens) (byte-words lens (λ i h. c.fits-lens i)) in
     rw w
     (ap (λ (r : List ℕ). set r (a.at + 15) 0) c.copy_in.ensures ∙ paste_snoc a.out.now a.at lens 0 (a.at + 15) (omega arith) (omega arith))

@@ -1,10 +1,9 @@
 -- `key::copy_word` meets its contract: the word holds the eight bytes, and goes on into the buffer.
 use Rattle.base.specs.Kit.{arith}
-use Rattle.key.proofs.Words.{word-long, word_in}
+use Rattle.key.specs.Part.{part}
+use Rattle.key.proofs.Words.{word_in}
 use Rattle.key.proofs.copy_word.Goals as goal
 
-pub copy_in-requires : goal.copy_in-requires
-copy_in-requires c = omega (arith, word-long _ _ (omega arith) c.least-from.ensures c.part_of.ensures)
-
 pub returns : goal.returns
-returns c = search word_in
+unfolding part
+returns c = word_in _ _ (omega arith) c.min-from.ensures c.bytes_at-word.ensures _ _ c.copy_in.ensures

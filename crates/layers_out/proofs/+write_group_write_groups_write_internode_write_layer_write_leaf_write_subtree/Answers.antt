@@ -10,7 +10,7 @@ use Rattle.layers_out.proofs.Lines.{some-slots, no-slots}
 use Rattle.layers_out.proofs.GroupParts.{slots-count, shorts-few, first-slots, given-rest, shorts-given, shorts-room, shorts_only, long-room, suffix-given, suffix-room, suffix-laid, layers-left, head_line, layer-room, layer-laid}
 use Rattle.image_out.proofs.Rows.{slots_n}
 use Rattle.layers_out.proofs.+write_group_write_groups_write_internode_write_layer_write_leaf_write_subtree.Goals as goal
-use Rattle.layers_out.proofs.+write_group_write_groups_write_internode_write_layer_write_leaf_write_subtree.Goals.{write_internode-else-loop-i-test, write_internode-then-loop-i-test+then-q-eq0}
+use Rattle.layers_out.proofs.+write_group_write_groups_write_internode_write_layer_write_leaf_write_subtree.Goals.{write_internode-else-loop-test, write_internode-then-loop-test+then-q-eq0}
 
 -- ONE GROUP
 pub write_group-add_shorts-s-requires : goal.write_group-add_shorts-s-requires
@@ -81,25 +81,25 @@ write_group-returns t c =
 pub write_groups-group_at-g-requires : goal.write_groups-group_at-g-requires
 write_groups-group_at-g-requires t c = record { fit = c.loop-p.invariant.given.fit; left_nonzero = omega arith }
 
-pub write_groups-slot_count-requires : goal.write_groups-slot_count-requires
-write_groups-slot_count-requires t c =
-    shorts-few _ _ _ _ c.loop-p.invariant.given (omega arith) _ c.group_at-g.ensures
+pub write_groups-slots-requires : goal.write_groups-slots-requires
+write_groups-slots-requires t c =
+    omega (arith, shorts-few _ _ _ _ c.loop-p.invariant.given (omega arith) _ c.group_at-g.ensures)
 
-pub write_groups-overflow_add-slots : goal.write_groups-overflow_add-slots
-write_groups-overflow_add-slots t c =
+pub write_groups-overflow_add-p : goal.write_groups-overflow_add-p
+write_groups-overflow_add-p t c =
     let inv = c.loop-p.invariant in
     let few = shorts-few _ _ _ _ inv.given (omega arith) _ c.group_at-g.ensures in
     let n = slots_n _ _ inv.slots in
-    omega (arith, few, n, inv.few, c.slot_count.ensures)
+    omega (arith, few, n, inv.few, c.slots.ensures)
 
-pub write_groups-returns-then-slots-slot_count-gt15 : goal.write_groups-returns-then-slots-slot_count-gt15
-write_groups-returns-then-slots-slot_count-gt15 t c =
+pub write_groups-returns-then-p-slots-gt15 : goal.write_groups-returns-then-p-slots-gt15
+write_groups-returns-then-p-slots-gt15 t c =
     let inv = c.loop-p.invariant in
     let left : 0 < c.loop-p.p.left = omega arith in
     let r = c.group_at-g.ensures in
     let k = slots-count _ _ _ _ inv.given left _ r in
     let n = slots_n _ _ inv.slots in
-    groups-stop _ _ _ _ _ _ _ inv _ _ (first-slots _ _ _ _ inv.given left _ r) (omega (arith, k, n, c.slot_count.ensures)) _ _ refl
+    groups-stop _ _ _ _ _ _ _ inv _ _ (first-slots _ _ _ _ inv.given left _ r) (omega (arith, k, n, c.slots.ensures)) _ _ refl
 
 pub write_groups-write_group-q-requires : goal.write_groups-write_group-q-requires
 write_groups-write_group-q-requires t c =
@@ -118,8 +118,8 @@ write_groups-write_group-q-requires t c =
           (
             r,
             (
-              group-holds _ _ _ _ _ _ _ inv _ _ e (omega (arith, k, n, c.slot_count.ensures)),
-              group-room _ _ _ _ _ _ _ inv _ _ e (omega (arith, k, n, c.slot_count.ensures)) (whole-fits _ _ _ room.fits) room.short,
+              group-holds _ _ _ _ _ _ _ inv _ _ e (omega (arith, k, n, c.slots.ensures)),
+              group-room _ _ _ _ _ _ _ inv _ _ e (omega (arith, k, n, c.slots.ensures)) (whole-fits _ _ _ room.fits) room.short,
             ),
           ),
         ),
@@ -135,7 +135,7 @@ write_groups-loop-p-preserved t c =
     let n = slots_n _ _ inv.slots in
     let e = first-slots _ _ _ _ inv.given left _ r in
     let l : length c.write_group-q.new.out ≡ length c.loop-p.out = search rules in
-    groups_turn _ _ _ _ _ _ _ inv _ _ e (omega (arith, k, n, c.slot_count.ensures)) _ _ _ (c.write_group-q.ensures inv.fields inv.slots) refl refl
+    groups_turn _ _ _ _ _ _ _ inv _ _ e (omega (arith, k, n, c.slots.ensures)) _ _ _ (c.write_group-q.ensures inv.fields inv.slots) refl refl
     (given-rest _ _ _ _ inv.given left _ r) refl l
 
 pub write_groups-returns : goal.write_groups-returns
@@ -145,56 +145,56 @@ write_groups-returns t c =
     groups_end _ _ _ _ _ _ _ inv (ap (slots_at _ _ _) z ∙ no-slots _ _ _) _ _ refl
 
 -- AN INTERNODE
-pub write_internode-loop-i-init : goal.write_internode-loop-i-init
-write_internode-loop-i-init t c =
+pub write_internode-loop-init : goal.write_internode-loop-init
+write_internode-loop-init t c =
     siblings-begin _ _ _ _ _ _ c.requires.given c.requires.room.some c.requires.room.behind c.first_child-c.ensures
 
 pub write_internode-write_subtree-q-requires : goal.write_internode-write_subtree-q-requires
 write_internode-write_subtree-q-requires t c =
     let p = c.requires in
-    let inv = c.loop-i.invariant in
-    let left : 0 < c.loop-i.q.left = omega (arith, c.if-q-eq0.false) in
+    let inv = c.loop.invariant in
+    let left : 0 < c.loop.q.left = omega (arith, c.if-q-eq0.false) in
     (omega (arith, c.decreases), (p.h_bound, (left, (inv.rest.given, next-room _ _ _ _ _ _ _ _ _ inv p.room (omega arith) left))))
 
 pub write_internode-add_child-c-requires : goal.write_internode-add_child-c-requires
-write_internode-add_child-c-requires t c = child_fits _ _ _ _ _ _ _ _ _ c.loop-i.invariant c.requires.room (omega arith)
+write_internode-add_child-c-requires t c = child_fits _ _ _ _ _ _ _ _ _ c.loop.invariant c.requires.room (omega arith)
 
-pub write_internode-loop-i-preserved : goal.write_internode-loop-i-preserved
-write_internode-loop-i-preserved t c =
-    let inv = c.loop-i.invariant in
-    let left : 0 < c.loop-i.q.left = omega (arith, c.if-q-eq0.false) in
+pub write_internode-loop-preserved : goal.write_internode-loop-preserved
+write_internode-loop-preserved t c =
+    let inv = c.loop.invariant in
+    let left : 0 < c.loop.q.left = omega (arith, c.if-q-eq0.false) in
     let more = some-slots _ _ _ _ inv.rest.given.fit left in
-    let less : c.loop-i.i < 15 = omega arith in
+    let less : c.loop.counter < 15 = omega arith in
     siblings_turn _ _ _ _ _ _ _ _ _ inv less more _ _ _ (next-room _ _ _ _ _ _ _ _ _ inv c.requires.room less left).fits
     c.write_subtree-q.ensures c.add_child-c.ensures
 
 pub write_internode-put_internode-requires : goal.write_internode-put_internode-requires
 write_internode-put_internode-requires t c =
-    let over : (15 ≤ c.loop-i.i) ⊎ (c.loop-i.q.left ≡ 0) =
-    elim c.loop-i-test.branch [
-      | write_internode-else-loop-i-test w ↦ inl (omega arith)
-      | write_internode-then-loop-i-test+then-q-eq0 w ↦ inr (omega arith)
+    let over : (15 ≤ c.loop.counter) ⊎ (c.loop.q.left ≡ 0) =
+    elim c.loop-test.branch [
+      | write_internode-else-loop-test w ↦ inl (omega arith)
+      | write_internode-then-loop-test+then-q-eq0 w ↦ inr (omega arith)
     ] in
-    internode-fits _ _ _ _ _ _ _ _ _ c.loop-i.invariant c.requires.room over
+    internode-fits _ _ _ _ _ _ _ _ _ c.loop.invariant c.requires.room over
 
 pub write_internode-overflow_add-result : goal.write_internode-overflow_add-result
 write_internode-overflow_add-result t c =
-    let over : (15 ≤ c.loop-i.i) ⊎ (c.loop-i.q.left ≡ 0) =
-    elim c.loop-i-test.branch [
-      | write_internode-else-loop-i-test w ↦ inl (omega arith)
-      | write_internode-then-loop-i-test+then-q-eq0 w ↦ inr (omega arith)
+    let over : (15 ≤ c.loop.counter) ⊎ (c.loop.q.left ≡ 0) =
+    elim c.loop-test.branch [
+      | write_internode-else-loop-test w ↦ inl (omega arith)
+      | write_internode-then-loop-test+then-q-eq0 w ↦ inr (omega arith)
     ] in
-    let f = internode-fits _ _ _ _ _ _ _ _ _ c.loop-i.invariant c.requires.room over in
+    let f = internode-fits _ _ _ _ _ _ _ _ _ c.loop.invariant c.requires.room over in
     omega (arith, f)
 
 pub write_internode-returns : goal.write_internode-returns
 write_internode-returns t c =
-    let over : (15 ≤ c.loop-i.i) ⊎ (c.loop-i.q.left ≡ 0) =
-    elim c.loop-i-test.branch [
-      | write_internode-else-loop-i-test w ↦ inl (omega arith)
-      | write_internode-then-loop-i-test+then-q-eq0 w ↦ inr (omega arith)
+    let over : (15 ≤ c.loop.counter) ⊎ (c.loop.q.left ≡ 0) =
+    elim c.loop-test.branch [
+      | write_internode-else-loop-test w ↦ inl (omega arith)
+      | write_internode-then-loop-test+then-q-eq0 w ↦ inr (omega arith)
     ] in
-    internode-is _ _ _ _ _ _ _ _ _ c.loop-i.invariant c.requires.room over _ c.put_internode.ensures
+    internode-is _ _ _ _ _ _ _ _ _ c.loop.invariant c.requires.room over _ c.put_internode.ensures
 
 -- A LAYER
 pub write_layer-write_leaf-r-requires : goal.write_layer-write_leaf-r-requires

@@ -37,11 +37,8 @@ invariant-write_groups-loop-p l =
 abbrev pub decreases-write_groups-loop-p : goal.decreases-write_groups-loop-p
 decreases-write_groups-loop-p l = l.p.left
 
-abbrev pub invariant-write_internode-loop-i : goal.invariant-write_internode-loop-i
-invariant-write_internode-loop-i l = SiblingsSoFar l.sheet l.below l.h l.fn.out l.r l.i l.out l.q l.c
-
-abbrev pub decreases-write_internode-loop-i : goal.decreases-write_internode-loop-i
-decreases-write_internode-loop-i l = 15 - l.i
+abbrev pub invariant-write_internode-loop : goal.invariant-write_internode-loop
+invariant-write_internode-loop l = SiblingsSoFar l.sheet l.below l.h l.fn.out l.r l.counter l.out l.q l.c
 
 abbrev pub invariant-write_layer-loop-r : goal.invariant-write_layer-loop-r
 invariant-write_layer-loop-r l =

@@ -1,15 +1,24 @@
 -- `listed::next_line` meets its contract, by the listing's stage.
-use Rattle.listed.proofs.LineLaws.{next-first, next-refused, next-pairs, next_done}
+use Rattle.std.specs.Prelude.{Some, Ok}
+use Rattle.base.specs.Kit.{ap, rules}
+use Rattle.listed.specs.Types.{Line}
+use Rattle.listed.specs.CodeLines.{line_at, next_line}
+use Rattle.listed.proofs.LineLaws.{line_made, next-pairs}
 use Rattle.listed.proofs.next_line.Goals as goal
 
 pub returns-in-First : goal.returns-in-First
-returns-in-First c = next-first _ _ _ _ _ c.in-First.is c.at_stage.ensures c.first_line.ensures
+unfolding next_line line_at
+returns-in-First c = rw c.in-First.is (ap (λ (l : Line). Ok (Some l)) (line_made _ _ _ c.written.ensures.listing (search rules)))
 
 pub returns-in-Pairs : goal.returns-in-Pairs
 returns-in-Pairs c = next-pairs _ _ _ c.in-Pairs.is c.step_line.ensures
 
 pub returns-in-Refused : goal.returns-in-Refused
-returns-in-Refused c = next-refused _ _ _ _ _ c.in-Refused.is c.at_stage-in-Refused.ensures c.refused_line.ensures
+unfolding next_line line_at
+returns-in-Refused c =
+    rw (c.in-Refused.is, ← c.from.ensures, ← c.from-number.ensures)
+    (ap (λ (l : Line). Ok (Some l)) (line_made _ _ _ c.written-in-Refused.ensures.listing (search rules)))
 
 pub returns-in-Done : goal.returns-in-Done
-returns-in-Done c = next_done _ _ _ c.in-Done.is c.no_line.ensures
+unfolding next_line line_at
+returns-in-Done c = rw c.in-Done.is

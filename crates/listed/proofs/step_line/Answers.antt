@@ -1,26 +1,17 @@
 -- `listed::step_line` meets its contract: the step, then its line by the answer.
-use Rattle.base.specs.Kit.{sym, ◌∙◌}
-use Rattle.listed.proofs.LineLaws.{step-declines, step-key, step-none, step-zero}
+use Rattle.std.specs.Prelude.{Ok}
+use Rattle.base.specs.Kit.{refl, ap, ◌∙◌, rules}
+use Rattle.sheet.specs.Written.{written_len}
+use Rattle.listed.proofs.LineLaws.{line_made, step-key, step-none}
 use Rattle.listed.proofs.step_line.Goals as goal
 
-pub returns-then-number-ne0 : goal.returns-then-number-ne0
-returns-then-number-ne0 c =
-    step-declines _ _ _ c.step-s.ensures _ _ c.answer_number-number.ensures c.if-number-ne0.true c.no_line.ensures
+pub returns-in-Some : goal.returns-in-Some
+returns-in-Some c =
+    step-key _ _ _ c.step-stepped.ensures _ refl _ c.in-Some.key (c.in_ok-key.was ∙ ap Ok c.in-Some.is)
+    (rw (← c.first-bytes.ensures) (line_made _ _ _ c.written.ensures.listing (search rules)))
 
-pub returns-in-Key : goal.returns-in-Key
-returns-in-Key c =
-    step-key _ _ _ c.step-s.ensures _ _
-    c.wrapping_add_usize-moves.ensures.value _ _ _ c.in-Key.is
-    c.at_stage.ensures c.pair_line.ensures
-
-pub returns-in-Nothing : goal.returns-in-Nothing
-returns-in-Nothing c =
-    step-none _ _ _ c.step-s.ensures _ _
-    c.wrapping_add_usize-moves.ensures.value _ c.at_stage-in-Nothing.ensures c.last_line.ensures
-    c.in-Nothing.is
-
-pub returns-in-Declined : goal.returns-in-Declined
-returns-in-Declined c =
-    step-zero _ _ _ c.step-s.ensures _ _
-    c.wrapping_add_usize-moves.ensures.value _ c.at_stage-in-Declined.ensures c.last_line-in-Declined.ensures
-    _ c.in-Declined.is (sym c.answer_number-number.ensures ∙ c.if-number-ne0.false)
+pub returns-in-None : goal.returns-in-None
+unfolding written_len
+returns-in-None c =
+    step-none _ _ _ c.step-stepped.ensures _ refl _ (c.in_ok-key.was ∙ ap Ok c.in-None.is)
+    (line_made _ _ _ c.written-in-None.ensures.listing (search rules))

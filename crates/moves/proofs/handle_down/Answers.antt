@@ -4,4 +4,4 @@ use Rattle.moves.proofs.handle_down.Goals as goal
 
 pub returns : goal.returns
 unfolding handle_down
-returns c = rw (c.stand_at.ensures, c.shift_clear.ensures)
+returns c = rw c.shift_clear.ensures

@@ -40,7 +40,7 @@ returns-in-FindNext c = rw (in-state _ _ c.in-FindNext.is _ _ _ _ _) c.find_next
 
 pub returns-in-Down : goal.returns-in-Down
 unfolding pass_in kept
-returns-in-Down c = rw (in-state _ _ c.in-Down.is _ _ _ _ _) (c.handle_down.ensures, refl)
+returns-in-Down c = rw (in-state _ _ c.in-Down.is _ _ _ _ _) (rw c.handle_down.ensures, refl)
 
 pub returns-in-Up : goal.returns-in-Up
 unfolding pass_in kept

@@ -1,33 +1,34 @@
 -- One law for each way out.
-use Rattle.std.specs.Prelude.{◌+◌, ◌<◌}
-use Rattle.base.specs.Kit.{refl, arith, rules, length, le-ltb, lt-ltb}
-use Rattle.base.specs.Pick.{pick}
-use Rattle.reading.specs.CodeViews.{byte_seen}
-use Rattle.reading.proofs.Turns.{no_byte_there, hex_end, hex-short, hex_both}
+use Rattle.std.specs.Prelude.{◌+◌, ◌*◌}
+use Rattle.base.specs.Kit.{sym, ◌∙◌, ap, arith, drop-drop}
+use Rattle.reading.specs.Read.{got}
+use Rattle.reading.proofs.Turns.{rest_is, hex-short, no_high, no_low, hex_both, hex_small}
 use Rattle.reading.proofs.hex_byte_at.Goals as goal
 
-pub returns-then-h-ge16 : goal.returns-then-h-ge16
-unfolding pick
-returns-then-h-ge16 c =
-    let h : c.args.at + 1 < length c.args.s.now = omega arith in
-    no_byte_there _ _ _ c.no_byte-then-h-ge16.ensures
-    (rw (hex_both _ _ h, ← c.nibble-h.ensures, ← c.nibble-l.ensures, le-ltb _ 16 c.if-h-ge16.true))
+pub returns-in_default-clause-seen : goal.returns-in_default-clause-seen
+returns-in_default-clause-seen c = sym (hex-short _ (rw (rest_is _ _) at c.in_default.len_below))
 
-pub returns-then-l-ge16 : goal.returns-then-l-ge16
-unfolding pick
-returns-then-l-ge16 c =
-    let h : c.args.at + 1 < length c.args.s.now = omega arith in
-    no_byte_there _ _ _ c.no_byte-then-l-ge16.ensures
-    (rw (hex_both _ _ h, ← c.nibble-h.ensures, ← c.nibble-l.ensures, lt-ltb _ 16 c.if-h-ge16.false, le-ltb _ 16 c.if-l-ge16.true))
+pub returns-in_err-hex_digit-clause-seen : goal.returns-in_err-hex_digit-clause-seen
+returns-in_err-hex_digit-clause-seen c =
+    let h = rw (rest_is c.args.s.now c.args.at) at c.in-len2-up.len_at_least in
+    let e = rw (rest_is c.args.s.now c.args.at) at c.hex_digit.ensures in
+    rw c.from_residual.ensures (sym (no_high _ h (sym e ∙ c.in_err-hex_digit.was)))
 
-pub returns : goal.returns
-unfolding byte_seen pick
-returns c =
-    let h : c.args.at + 1 < length c.args.s.now = omega arith in
-    (rw (hex_both _ _ h, ← c.nibble-h.ensures, ← c.nibble-l.ensures, lt-ltb _ 16 c.if-h-ge16.false, lt-ltb _ 16 c.if-l-ge16.false), search rules, λ f. refl)
+pub overflow_mul-result : goal.overflow_mul-result
+overflow_mul-result c = omega (arith, hex_small _ _ (sym c.in_ok-hex_digit.ensures))
 
-pub returns-then-s-at : goal.returns-then-s-at
-returns-then-s-at c = no_byte_there _ _ _ c.no_byte.ensures (hex_end _ _ c.if-s-at.true)
+pub overflow_add-result : goal.overflow_add-result
+overflow_add-result c = omega (arith, hex_small _ _ (sym c.in_ok-hex_digit.ensures), hex_small _ _ (sym c.in_ok-hex_digit-2.ensures))
 
-pub returns-then-s-at-lt2 : goal.returns-then-s-at-lt2
-returns-then-s-at-lt2 c = no_byte_there _ _ _ c.no_byte-then-s-at-lt2.ensures (hex-short _ _ c.if-s-at.false c.if-s-at-lt2.true)
+pub returns-in_err-hex_digit-2-clause-seen : goal.returns-in_err-hex_digit-2-clause-seen
+returns-in_err-hex_digit-2-clause-seen c =
+    let h = rw (rest_is c.args.s.now c.args.at) at c.in-len2-up.len_at_least in
+    let e = rw (rest_is c.args.s.now c.args.at) at c.hex_digit-2.ensures in
+    rw c.from_residual-in_err-hex_digit-2.ensures (sym (no_low _ h (sym e ∙ c.in_err-hex_digit-2.was)))
+
+pub returns-clause-seen : goal.returns-clause-seen
+returns-clause-seen c =
+    let h = rw (rest_is c.args.s.now c.args.at) at c.in-len2-up.len_at_least in
+    let e = rw (rest_is c.args.s.now c.args.at) at c.in_ok-hex_digit.ensures in
+    let f = rw (rest_is c.args.s.now c.args.at) at c.in_ok-hex_digit-2.ensures in
+    sym (hex_both _ _ _ h (sym e) (sym f) ∙ ap (got (16 * c.in_ok-hex_digit.field-0 + c.in_ok-hex_digit-2.field-0)) (drop-drop 2 c.args.at c.args.s.now))

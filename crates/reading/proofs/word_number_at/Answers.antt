@@ -1,26 +1,27 @@
 -- One law for each way out.
-use Rattle.base.specs.Kit.{◌∙◌, sym, not-true, not-false}
-use Rattle.reading.proofs.Turns.{unread}
+use Rattle.base.specs.Kit.{sym}
+use Rattle.reading.proofs.Turns.{unread, rest_is}
 use Rattle.reading.proofs.Lines.{no_word, no-figure, no_newline, line_there}
 use Rattle.reading.proofs.word_number_at.Goals as goal
 
-pub returns-then-not-word_at : goal.returns-then-not-word_at
-returns-then-not-word_at c =
-    unread _ _ _ _ c.no_number.ensures
-    (no_word c.args.w.now c.args.s.now c.args.at ((sym c.word_at.ensures ∙ c.if-not-word_at.true)))
+pub returns-then-not-starts_with : goal.returns-then-not-starts_with
+returns-then-not-starts_with c =
+    let e = rw (rest_is c.args.s.now c.args.at) at c.if-not-starts_with.ensures.value in
+    unread _ _ _ (no_word c.args.w.now c.args.s.now c.args.at (sym e))
 
-pub returns-then-not-n : goal.returns-then-not-n
-returns-then-not-n c =
-    unread _ _ _ _ c.no_number-then-not-n.ensures
-    (no-figure _ _ _ ((sym c.word_at.ensures ∙ c.if-not-word_at.false)) c.number_at-n.result c.number_at-n.ensures (not-true _ c.if-not-n.true))
+pub returns-in_err-number : goal.returns-in_err-number
+returns-in_err-number c =
+    let e = rw (rest_is c.args.s.now c.args.at) at c.if-not-starts_with.ensures.value in
+    rw c.from_residual.ensures (unread _ _ _ (no-figure c.args.w.now c.args.s.now c.args.at (sym e) c.in_err-number.ensures))
 
-pub returns-then-not-word_at-2 : goal.returns-then-not-word_at-2
-returns-then-not-word_at-2 c =
-    unread _ _ _ _ c.no_number-then-not-word_at-2.ensures
-    (no_newline _ _ _ ((sym c.word_at.ensures ∙ c.if-not-word_at.false)) c.number_at-n.result c.number_at-n.ensures
-    (not-false _ c.if-not-n.false) ((sym c.word_at-2.ensures ∙ c.if-not-word_at-2.true)))
+pub returns-then-not-starts_with-2 : goal.returns-then-not-starts_with-2
+returns-then-not-starts_with-2 c =
+    let e = rw (rest_is c.args.s.now c.args.at) at c.if-not-starts_with.ensures.value in
+    let n = rw (rest_is c.args.s.now c.in_ok-number.number.next) at c.if-not-starts_with-2.ensures.value in
+    unread _ _ _ (no_newline c.args.w.now c.args.s.now c.args.at (sym e) _ c.in_ok-number.ensures (sym n))
 
 pub returns : goal.returns
 returns c =
-    line_there _ _ _ ((sym c.word_at.ensures ∙ c.if-not-word_at.false)) c.number_at-n.result c.number_at-n.ensures
-    (not-false _ c.if-not-n.false) ((sym c.word_at-2.ensures ∙ c.if-not-word_at-2.false))
+    let e = rw (rest_is c.args.s.now c.args.at) at c.if-not-starts_with.ensures.value in
+    let n = rw (rest_is c.args.s.now c.in_ok-number.number.next) at c.if-not-starts_with-2.ensures.value in
+    line_there c.args.w.now c.args.s.now c.args.at (sym e) _ c.in_ok-number.ensures (sym n)

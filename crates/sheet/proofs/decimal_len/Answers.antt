@@ -1,14 +1,10 @@
--- `sheet::decimal_len` meets its contract. The loop's invariant: the digits counted and those of what is left are one more than
--- x has. The measure is what is left.
-use Rattle.base.specs.Kit.{arith}
-use Rattle.sheet.proofs.Decimal.{decimal-one-length, decimal-more-length, decimal-length}
+-- `sheet::decimal_len` meets its contract: the power of ten says how many digits there are; 0 has one.
+use Rattle.base.specs.Kit.{sym, arith}
+use Rattle.sheet.proofs.Decimal.{decimal-one-length, decimal-size}
 use Rattle.sheet.proofs.decimal_len.Goals as goal
 
-pub overflow_add-n : goal.overflow_add-n
-overflow_add-n c = omega (arith, decimal-length c.args.x)
+pub returns-in-Some : goal.returns-in-Some
+returns-in-Some c = let f = c.in-Some.ensures in sym (decimal-size c.in-Some.n c.args.x f.bound f.power_le f.next_power_gt)
 
-pub loop-rest-preserved : goal.loop-rest-preserved
-loop-rest-preserved c = omega (arith, decimal-more-length c.loop-rest.rest c.loop-rest-test.true (omega arith))
-
-pub returns : goal.returns
-returns c = omega (arith, decimal-one-length c.loop-rest.rest c.loop-rest-test.false)
+pub returns-in-None : goal.returns-in-None
+returns-in-None c = sym (decimal-one-length c.args.x (omega (arith, c.in-None.ensures.none)))

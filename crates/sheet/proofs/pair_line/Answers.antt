@@ -4,6 +4,7 @@ use Rattle.base.specs.Kit.{◌∙◌, List, [], ℕ, arith, length, length-appen
 use Rattle.sheet.specs.Sheet.{hex_key, pair_line}
 use Rattle.sheet.proofs.Decimal.{decimal-length}
 use Rattle.sheet.proofs.Paste.{one-behind, too_long, in_two}
+use Rattle.sheet.proofs.pair_line.Goals.{then-out-h-via-then-out-h, then-out-h-via-else-out-h+then-out-h-2}
 use Rattle.sheet.proofs.pair_line.Goals as goal
 
 -- the key in hex and a space
@@ -17,13 +18,12 @@ pub returns-then-out-h : goal.returns-then-out-h
 unfolding pair_line
 returns-then-out-h c =
     let args = c.args in
-    too_long args.out.now (head args.key.now) args.value (omega (arith, head-length args.key.now))
-
-pub returns-then-out-h-2 : goal.returns-then-out-h-2
-unfolding pair_line
-returns-then-out-h-2 c =
-    let args = c.args in
-    too_long args.out.now (head args.key.now) args.value (omega (arith, head-length args.key.now))
+    let key = args.key.now in
+    elim c.then-out-h.branch [
+      | then-out-h-via-then-out-h w ↦ too_long args.out.now (head key) args.value (omega (arith, head-length key, c.hex_key_len-h.ensures))
+      | then-out-h-via-else-out-h+then-out-h-2 w ↦
+          too_long args.out.now (head key) args.value (omega (arith, head-length key, c.hex_key_len-h.ensures, w.decimal_len.ensures))
+    ]
 
 pub returns : goal.returns
 unfolding pair_line
@@ -40,3 +40,6 @@ overflow_add-h c = omega (arith, decimal-length c.args.value)
 
 pub overflow_add-h-2 : goal.overflow_add-h-2
 overflow_add-h-2 c = omega (arith, decimal-length c.args.value)
+
+pub overflow_add-h-else-out-h : goal.overflow_add-h-else-out-h
+overflow_add-h-else-out-h c = omega (arith, decimal-length c.args.value)

@@ -1,47 +1,23 @@
--- `sheet::put_decimal` meets its contract. The loop's invariant: the digits of what is left, written at `at`, make the whole;
--- i is the place of the last of them. The measure is what is left.
-use Rattle.std.specs.Prelude.{◌≡◌, ◌+◌, ◌/◌, ◌≤◌, ◌<◌}
-use Rattle.base.specs.Kit.{refl, ◌∙◌, arith, length, rules}
+-- `sheet::put_decimal` meets its contract. The loop's invariant: the digits that are left, written at `at`, make the whole.
+use Rattle.std.specs.Prelude.{◌≡◌, ◌+◌, ◌-◌}
+use Rattle.base.specs.Kit.{arith, length}
 use Rattle.sheet.specs.Sheet.{decimal}
-use Rattle.sheet.proofs.Decimal.{decimal-length, decimal-more-length, digit-more, digit-one}
+use Rattle.sheet.proofs.Decimal.{lasts-all, lasts-more, lasts-none}
 use Rattle.sheet.proofs.put_decimal.Goals as goal
-use Rattle.sheet.proofs.put_decimal.Goals.{In-loop-rest}
 
--- the digits of what is left, one fewer after a turn, and at least one
-shorter : (c : In-loop-rest)
-    → (length (decimal c.loop-rest.rest) ≡ length (decimal (c.loop-rest.rest / 10)) + 1)
-    × (1 ≤ length (decimal (c.loop-rest.rest / 10)))
-shorter c = (
-  decimal-more-length c.loop-rest.rest c.loop-rest-test.true (omega arith),
-  (decimal-length (c.loop-rest.rest / 10)).0,
-)
+pub loop-i-init : goal.loop-i-init
+loop-i-init c =
+    let e : c.args.at + c.decimal_len.result - c.args.at ≡ length (decimal c.args.x) = omega (arith, c.decimal_len.ensures) in
+    (omega arith, rw (e, lasts-all))
 
-pub overflow_sub-i : goal.overflow_sub-i
-overflow_sub-i c = omega (arith, decimal-length c.args.x)
-
-pub loop-rest-init : goal.loop-rest-init
-loop-rest-init c = (
-  search rules,
-  search rules,
-  omega (arith, decimal-length c.args.x),
-  omega (arith, decimal-length c.args.x),
-  refl,
-)
-
-pub loop-rest-preserved : goal.loop-rest-preserved
-loop-rest-preserved c =
-    let h : c.loop-rest.i < length c.loop-rest.out = omega arith in (
-      search rules,
-      search rules,
-      search rules,
-      omega (arith, shorter (goal.at.loop-rest-preserved c).In-loop-rest),
-      digit-more _ _ _ _ c.loop-rest.invariant.3 h c.loop-rest-test.true (omega arith) ∙ c.loop-rest.invariant.4,
-    )
+pub loop-i-preserved : goal.loop-i-preserved
+loop-i-preserved c =
+    let i = c.loop-i.i in
+    let at = c.args.at in
+    (omega arith, lasts-more c.loop-i.out at (i - 1 - at) c.loop-i.rest (i - 1) (i - 1 - at) (i - at) (omega arith) (omega arith) (omega arith) (omega arith) c.loop-i.invariant.1)
 
 pub returns : goal.returns
 returns c =
-    let h : c.loop-rest.i < length c.loop-rest.out = omega arith in
-    (search rules, digit-one _ _ _ _ c.loop-rest.invariant.3 h c.loop-rest-test.false ∙ c.loop-rest.invariant.4)
-
-pub overflow_sub-i-in-loop-rest : goal.overflow_sub-i-in-loop-rest
-overflow_sub-i-in-loop-rest c = omega (arith, shorter (goal.at.overflow_sub-i-in-loop-rest c).In-loop-rest)
+    let i = c.loop-i.i in
+    let at = c.args.at in
+    (omega (arith, c.decimal_len.ensures), lasts-none c.loop-i.out at (i - at) c.loop-i.rest (omega arith) c.loop-i.invariant.1)

@@ -4,7 +4,4 @@ use Rattle.start.proofs.start_position.Given as goal
 
 abbrev pub invariant-loop-i : goal.invariant-loop-i
 invariant-loop-i l =
-    (l.i ≤ l.size) × (start_from l.mode l.image l.leaf l.k l.buf l.i (l.size - l.i) ≡ start_position l.mode l.image l.leaf l.k l.buf)
-
-abbrev pub decreases-loop-i : goal.decreases-loop-i
-decreases-loop-i l = l.size - l.i
+    (l.i ≤ l.size) × (start_from l.mode l.leaf.image.now l.leaf.at l.k l.buf l.i (l.size - l.i) ≡ start_position l.mode l.leaf.image.now l.leaf.at l.k l.buf)

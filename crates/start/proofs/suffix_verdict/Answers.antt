@@ -29,7 +29,7 @@ returns-in-Less c = search (choices, key-over, key_fits, order-as)
 
 pub returns-in-Equal : goal.returns-in-Equal
 unfolding suffix_verdict by_order
-returns-in-Equal c = search (choices, key-over, key_fits, order-as)
+returns-in-Equal c = rw c.at_equal.ensures (search (choices, key-over, key_fits, order-as))
 
 pub returns-in-Greater : goal.returns-in-Greater
 unfolding suffix_verdict by_order

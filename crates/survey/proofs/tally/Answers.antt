@@ -1,19 +1,13 @@
--- The check first, then the placing, then the count: each way out has its law.
-use Rattle.survey.proofs.Answers.{check-declines, place-declines, counts}
+-- The placing, then the count: each way out has its law.
+use Rattle.survey.proofs.Answers.{place-declines, counts}
 use Rattle.survey.proofs.tally.Goals as goal
 
-pub returns-then-code-ne0 : goal.returns-then-code-ne0
-returns-then-code-ne0 c =
-    place-declines _ _ _ _ _ c.check_image-checked.ensures _ _ _
-    c.in-Accepted.is _ c.place-placed.ensures c.if-code-ne0.true
+pub returns-in-Some : goal.returns-in-Some
+returns-in-Some c = place-declines _ _ _ _ _ c.in_ok-check_image.ensures _ c.place-placed.ensures _ c.in-Some.is
 
-pub returns-in-Declined : goal.returns-in-Declined
-returns-in-Declined c = check-declines _ _ _ _ _ c.check_image-checked.ensures _ c.in-Declined.is
-
-pub returns-else-code-ne0 : goal.returns-else-code-ne0
-returns-else-code-ne0 c =
-    counts _ _ _ _ _ c.check_image-checked.ensures _ _ _
-    c.in-Accepted.is _ c.place-placed.ensures
+pub returns-in-None : goal.returns-in-None
+returns-in-None c =
+    counts _ _ _ _ _ c.in_ok-check_image.ensures _ c.place-placed.ensures
     (λ i. (c.type_inv.image i).fits)
     (λ i. (c.type_inv.cursor i).fits)
-    c.if-code-ne0.false _ c.count_keys.ensures
+    c.in-None.is _ c.count_keys.ensures

@@ -1,19 +1,35 @@
 -- The heading, then the root layer by its subtree, then the end; what the heading lets through is as long as the rest asks.
-use Rattle.base.specs.Kit.{rules}
-use Rattle.verify.proofs.Cycle.{declined, heading-sized, heading-long, begin_bounded, whole-kept, whole_is}
+use Rattle.base.specs.Kit.{refl}
+use Rattle.base.proofs.Declines.{handed_on}
+use Rattle.verify.proofs.Cycle.{declined, heading-sized, heading-long, whole_stopped, end_stopped, whole-kept, whole_is}
 use Rattle.verify.proofs.check_image.Goals as goal
 
-pub returns-then-fault-ne0 : goal.returns-then-fault-ne0
-returns-then-fault-ne0 c = search declined
+pub returns-in_err-check_heading : goal.returns-in_err-check_heading
+returns-in_err-check_heading c = handed_on _ _ _ c.from_residual.ensures.1 (declined _ _ c.in_err-check_heading.ensures)
 
 pub root-requires : goal.root-requires
-root-requires c = search heading-long
+root-requires c = heading-long _ _ c.in_ok-check_heading.ensures
 
-pub check_subtree-q-requires : goal.check_subtree-q-requires
-check_subtree-q-requires c = record { sized = search heading-sized; below_bound = search rules; bounded = search begin_bounded }
+pub check_subtree-requires-clause-sized : goal.check_subtree-requires-clause-sized
+check_subtree-requires-clause-sized c = heading-sized _ _ c.in_ok-check_heading.ensures
 
-pub finish-requires : goal.finish-requires
-finish-requires c = record { in_bounds = search heading-long; bounded = search whole-kept }
+pub returns-in_err-q : goal.returns-in_err-q
+returns-in_err-q c =
+    handed_on _ _ _ c.from_residual-in_err-q.ensures.1
+    (whole_stopped _ _ c.in_ok-check_heading.ensures _ c.begin.ensures _ c.root.ensures _ c.in_err-q.ensures _ refl)
+
+pub returns-in_err-end_layer : goal.returns-in_err-end_layer
+returns-in_err-end_layer c =
+    handed_on _ _ _ c.from_residual-in_err-end_layer.ensures.1
+    (end_stopped _ _ c.in_ok-check_heading.ensures _ c.begin.ensures _ c.root.ensures _ c.in_ok-q.ensures _ refl _ c.in_err-end_layer.ensures)
+
+pub finish-requires-clause-in_bounds : goal.finish-requires-clause-in_bounds
+finish-requires-clause-in_bounds c = heading-long _ _ c.in_ok-check_heading.ensures
+
+pub finish-requires-clause-bounded : goal.finish-requires-clause-bounded
+finish-requires-clause-bounded c =
+    whole-kept _ _ c.in_ok-check_heading.ensures _ c.begin.ensures _ c.root.ensures _ c.in_ok-q.ensures _ refl _ c.in_ok-end_layer.ensures
 
 pub returns : goal.returns
-returns c = search whole_is
+returns c =
+    whole_is _ _ c.in_ok-check_heading.ensures _ c.begin.ensures _ c.root.ensures _ c.in_ok-q.ensures _ refl _ c.in_ok-end_layer.ensures _ c.finish.ensures

@@ -1,27 +1,30 @@
--- The tests stand in the order of the definition; a leaf that stands there lies in the image.
-use Rattle.base.specs.Kit.{ap, not, ◌∙◌, sym, refl, le-leb, lt-leb, rules}
+-- The tests stand in the order of the definition; a leaf that stands there lies in the image, and a slot is one of its 15.
+use Rattle.base.specs.Kit.{ap, not, ◌∙◌, sym, refl, le-leb, lt-leb}
 use Rattle.base.specs.Pick.{pick}
-use Rattle.moves.specs.Moves.{kept, find_next}
+use Rattle.base.proofs.Declines.{handed_on}
+use Rattle.search.proofs.LoopLaws.{usable, unusable}
+use Rattle.moves.specs.Moves.{kept, find_slot, find_next}
 use Rattle.moves.proofs.Answers.{there-in}
 use Rattle.moves.proofs.find_next.find_next.Goals as goal
 
-pub returns-then-not-is_there : goal.returns-then-not-is_there
-unfolding find_next kept pick
-returns-then-not-is_there c = rw ((sym c.is_there.ensures ∙ c.if-not-is_there.true)) (c.fault_at.ensures, refl)
-
 pub permutation-permutation-requires : goal.permutation-permutation-requires
-permutation-permutation-requires c = search there-in
+permutation-permutation-requires c = there-in _ _ _ c.is_there.ensures (ap not c.if-not-is_there.false)
 
-pub advance_leaf-requires : goal.advance_leaf-requires
-advance_leaf-requires c = record { in_leaf = there-in _ _ _ c.is_there.ensures (ap not c.if-not-is_there.false); len_bound = search rules }
+pub advance_leaf-requires-clause-in_leaf : goal.advance_leaf-requires-clause-in_leaf
+advance_leaf-requires-clause-in_leaf c = there-in _ _ _ c.is_there.ensures (ap not c.if-not-is_there.false)
 
-pub returns-then-size-i : goal.returns-then-size-i
-unfolding find_next kept pick
-returns-then-size-i c = rw ((sym c.is_there.ensures ∙ c.if-not-is_there.false), ← c.permutation-permutation.ensures, ← c.size.ensures, le-leb _ _ c.if-size-i.true) (c.advance_leaf.ensures, refl)
+pub returns-in_err-slot : goal.returns-in_err-slot
+unfolding find_next find_slot kept pick
+returns-in_err-slot c =
+    let u = unusable _ _ _ c.in_err-slot.ensures.value in
+    rw ((sym c.is_there.ensures ∙ c.if-not-is_there.false), ← c.permutation-permutation.ensures, ← c.size.ensures, lt-leb _ _ c.if-size-c.false, le-leb _ _ u.0)
+    (handed_on _ _ _ c.from_residual.ensures.1 (rw u.1), refl)
 
-pub find_slot-requires-clause-in_leaf : goal.find_slot-requires-clause-in_leaf
-find_slot-requires-clause-in_leaf c = there-in _ _ _ c.is_there.ensures (ap not c.if-not-is_there.false)
+pub find_slot-requires-clause-in_slot : goal.find_slot-requires-clause-in_slot
+find_slot-requires-clause-in_slot c = (there-in _ _ _ c.is_there.ensures (ap not c.if-not-is_there.false), c.in_ok-slot.ensures.in_leaf)
 
 pub returns : goal.returns
 unfolding find_next pick
-returns c = rw ((sym c.is_there.ensures ∙ c.if-not-is_there.false), ← c.permutation-permutation.ensures, ← c.size.ensures, lt-leb _ _ c.if-size-i.false, ← c.get.ensures) c.find_slot.ensures
+returns c =
+    rw ((sym c.is_there.ensures ∙ c.if-not-is_there.false), ← c.permutation-permutation.ensures, ← c.size.ensures, lt-leb _ _ c.if-size-c.false, ← (usable _ _ _ c.in_ok-slot.ensures.value).1)
+    c.find_slot.ensures

@@ -7,4 +7,4 @@ pub returns : goal.returns
 unfolding take_layer
 returns c =
     let stored = c.assign_store_ikey-stored.ensures in
-    rw (c.stand_at.ensures, ← c.ikey.ensures, ← stored.1, ← stored.0, ← c.value.ensures) (search rules)
+    rw (← c.ikey.ensures, ← stored.1, ← stored.0, ← c.value.ensures) (search rules)

@@ -14,12 +14,12 @@ returns-then-is_storable c = rw (← c.is_storable.ensures, c.if-is_storable.tru
 pub returns-then-keylenx-lt-LAYER_KEYLENX : goal.returns-then-keylenx-lt-LAYER_KEYLENX
 unfolding take_slot kept pick
 returns-then-keylenx-lt-LAYER_KEYLENX c =
-    rw (← c.is_storable.ensures, c.if-is_storable.false, ← c.keylenx.ensures, lt-ltb _ _ c.if-keylenx-lt-LAYER_KEYLENX.true) (c.fault_at.ensures, refl)
+    rw (← c.is_storable.ensures, c.if-is_storable.false, ← c.keylenx.ensures, lt-ltb _ _ c.if-keylenx-lt-LAYER_KEYLENX.true) (refl, refl)
 
 pub returns-then-c-ge31 : goal.returns-then-c-ge31
 unfolding take_slot kept pick
 returns-then-c-ge31 c =
-    rw (← c.is_storable.ensures, c.if-is_storable.false, ← c.keylenx.ensures, le-ltb _ _ c.if-keylenx-lt-LAYER_KEYLENX.false, le-leb _ _ c.if-c-ge31.true) (c.fault_at-then-c-ge31.ensures, refl)
+    rw (← c.is_storable.ensures, c.if-is_storable.false, ← c.keylenx.ensures, le-ltb _ _ c.if-keylenx-lt-LAYER_KEYLENX.false, le-leb _ _ c.if-c-ge31.true) (refl, refl)
 
 pub returns : goal.returns
 unfolding take_slot pick

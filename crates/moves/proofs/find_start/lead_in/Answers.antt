@@ -5,6 +5,4 @@ use Rattle.moves.proofs.find_start.lead_in.Goals as goal
 
 pub returns : goal.returns
 unfolding begin
-returns c =
-    rw (c.stand_at.ensures, ← c.shift-rest.ensures, ← c.assign_store_ikey-stored.ensures.1, ← c.value.ensures)
-    (search rules)
+returns c = rw (← c.shift-rest.ensures, ← c.assign_store_ikey-stored.ensures.1, ← c.value.ensures) (search rules)

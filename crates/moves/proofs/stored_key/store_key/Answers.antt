@@ -11,7 +11,7 @@ pub returns-then-keylenx-le8 : goal.returns-then-keylenx-le8
 unfolding key_place key_buf pick
 returns-then-keylenx-le8 c =
     rw (← c.keylenx-keylenx.ensures, le-leb _ _ c.if-keylenx-le8.true) (
-      c.assign_store_length.ensures ∙ simp (c.assign_store_ikey-stored.ensures.0, c.ikey.ensures),
+      c.assign_store_length.ensures ∙ simp (c.assign_store_ikey-stored.ensures.0, c.ikey.ensures, c.from.ensures),
       simp (c.assign_store_ikey-stored.ensures.1, c.ikey.ensures),
     )
 

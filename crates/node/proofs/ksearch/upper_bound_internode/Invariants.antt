@@ -1,9 +1,6 @@
-use Rattle.std.specs.Prelude.{◌≡◌, ◌≤◌, ◌-◌}
+use Rattle.std.specs.Prelude.{◌≡◌, ◌-◌}
 use Rattle.node.specs.Ksearch.{upper_bound}
 use Rattle.node.proofs.ksearch.upper_bound_internode.Given as goal
 
 abbrev pub invariant-loop-i : goal.invariant-loop-i
-invariant-loop-i l = (l.i ≤ l.n) × (upper_bound l.image l.at l.ikey l.i (l.n - l.i) ≡ upper_bound l.image l.at l.ikey 0 l.n)
-
-abbrev pub decreases-loop-i : goal.decreases-loop-i
-decreases-loop-i l = l.n - l.i
+invariant-loop-i l = upper_bound l.image l.at l.ikey l.i (l.n - l.i) ≡ upper_bound l.image l.at l.ikey 0 l.n

@@ -1,7 +1,9 @@
--- The low half and the high half, each in its place, are the number.
-use Rattle.base.specs.Kit.{rules}
-use Rattle.node.proofs.LeLaws.{u32_at_halves}
+-- std's number of the four bytes is the definition's.
+use Rattle.base.specs.Kit.{◌∙◌, arith}
+use Rattle.node.specs.Le.{u32_at}
+use Rattle.node.proofs.LeLaws.{summed}
 use Rattle.node.proofs.le.u32_at.Goals as goal
 
 pub returns : goal.returns
-returns c = search (rules, u32_at_halves, c.u16_at-low.ensures, c.u16_at-high.ensures)
+unfolding u32_at
+returns c = c.from_le_bytes.ensures ∙ summed _ _ 4 c.bytes_at.ensures 3 (omega arith)

@@ -1,7 +1,9 @@
--- The low half and the high half, each in its place, are the number.
-use Rattle.base.specs.Kit.{rules}
-use Rattle.node.proofs.LeLaws.{u64_at_halves}
+-- std's number of the eight bytes is the definition's.
+use Rattle.base.specs.Kit.{◌∙◌, arith}
+use Rattle.node.specs.Le.{u64_at}
+use Rattle.node.proofs.LeLaws.{summed}
 use Rattle.node.proofs.le.u64_at.Goals as goal
 
 pub returns : goal.returns
-returns c = search (rules, u64_at_halves, c.u32_at-low.ensures, c.u32_at-high.ensures)
+unfolding u64_at
+returns c = c.from_le_bytes.ensures ∙ summed _ _ 8 c.bytes_at.ensures 7 (omega arith)

@@ -1,5 +1,6 @@
 -- `step_walk` meets its contract: the number of the step decides.
-use Rattle.base.specs.Kit.{◌∙◌, rules}
+use Rattle.base.specs.Kit.{refl, ◌∙◌}
+use Rattle.base.proofs.Declines.{handed_on}
 use Rattle.walk_record.proofs.Told.{record_told}
 use Rattle.record_step.proofs.InPlace.{read-tested}
 use Rattle.record_step.proofs.Steps.{declined, taken}
@@ -12,10 +13,9 @@ read_walk-requires c =
 pub step_of-s-requires : goal.step_of-s-requires
 step_of-s-requires c = λ e. read-tested _ _ _ _ c.requires.bound_value _ c.read_walk.ensures (c.requires.image_value e)
 
-pub returns-then-code-ne0 : goal.returns-then-code-ne0
-returns-then-code-ne0 c =
-    declined _ _ _ _ _ c.requires.out_len c.requires.bound_value _ c.read_walk.ensures _ c.step_of-s.ensures _
-    c.answer_number-code.ensures c.if-code-ne0.true
+pub returns-in_err-key : goal.returns-in_err-key
+returns-in_err-key c =
+    rw (handed_on _ _ _ c.from_residual.ensures.1 refl) (declined _ _ _ _ _ c.requires.out_len c.requires.bound_value _ c.read_walk.ensures _ c.step_of-s.ensures _ c.in_err-key.was)
 
 pub put_moved-requires : goal.put_moved-requires
 put_moved-requires c =
@@ -24,8 +24,4 @@ put_moved-requires c =
 pub returns : goal.returns
 returns c =
     taken _ _ _ _ _ c.requires.out_len c.requires.bound_value _ c.read_walk.ensures _ c.step_of-s.ensures _
-    c.answer_number-code.ensures c.if-code-ne0.false _ _ _
-    c.put_moved.ensures.0 c.put_moved.ensures.1 (c.copy_words.ensures ∙ c.answer_numbers-said.ensures)
-
-pub copy_words-requires : goal.copy_words-requires
-copy_words-requires c = let fits = c.requires.out_len in search rules
+    c.in_ok-key.was _ _ _ c.put_moved.ensures.0 c.put_moved.ensures.1 (c.copy_from_slice.ensures.after ∙ c.answer_numbers.ensures ∙ rw c.in_ok-key.was refl)

@@ -1,10 +1,6 @@
 use Rattle.std.specs.Prelude.{◌+◌, ◌-◌}
-use Rattle.base.specs.Kit.{length}
 use Rattle.scan.proofs.AlongLaws.{Going}
 use Rattle.scan.proofs.along_leaf.along_leaf.Given as goal
 
 abbrev pub invariant-loop-moves : goal.invariant-loop-moves
-invariant-loop-moves l = Going l.image l.kind l.bound l.initial.buf l.initial.c l.found l.done l.buf l.c (l.found + (l.moves - l.done)) l.moves
-
-abbrev pub decreases-loop-moves : goal.decreases-loop-moves
-decreases-loop-moves l = length l.image - l.moves
+invariant-loop-moves l = Going l.image l.end.kind l.end.key.now l.initial.buf l.initial.c l.found l.done l.buf l.c (l.found + (l.moves - l.done)) l.moves

@@ -5,4 +5,4 @@ use Rattle.scan.proofs.RunLaws.{steps_so}
 use Rattle.scan.proofs.forward_ctx.advance_no_alloc.Goals as goal
 
 pub returns : goal.returns
-returns c = ap (λ (a : Advanced). a.stepped) c.advance_by-a.ensures ∙ steps_so _ _
+returns c = ap (λ (a : Advanced). a.stepped) c.advance_by.ensures ∙ steps_so _ _

@@ -6,7 +6,4 @@ use Rattle.search.proofs.helper.find_position_after_inline.Given as goal
 
 abbrev pub invariant-loop-i : goal.invariant-loop-i
 invariant-loop-i l =
-    (l.i ≤ l.size) × (after_inline l.image l.leaf l.k l.i (l.size - l.i) ≡ after_inline l.image l.leaf l.k l.initial.i (size_of (permutation_at l.image l.leaf) - l.initial.i))
-
-abbrev pub decreases-loop-i : goal.decreases-loop-i
-decreases-loop-i l = l.size - l.i
+    (l.i ≤ l.size) × (after_inline l.leaf.image.now l.leaf.at l.k l.i (l.size - l.i) ≡ after_inline l.leaf.image.now l.leaf.at l.k l.initial.i (size_of (permutation_at l.leaf.image.now l.leaf.at) - l.initial.i))

@@ -1,16 +1,16 @@
--- The tests say how the cursor's length compares with the slot's, and each order has its answer.
-use Rattle.key.proofs.Order.{order_less, order_equal, order_greater}
+-- Each order of the cursor's length to the slot's has its arm.
 use Rattle.search.specs.Helper.{past_inline}
+use Rattle.search.proofs.Answers.{ordered}
 use Rattle.search.proofs.helper.past_inline.Goals as goal
 
-pub returns-then-len-keylenx : goal.returns-then-len-keylenx
+pub returns-in-Less : goal.returns-in-Less
 unfolding past_inline
-returns-then-len-keylenx c = rw (order_less _ _ c.if-len-keylenx.true)
+returns-in-Less c = rw (ordered _ _ _ _ c.cmp.ensures c.in-Less.is)
 
-pub returns-then-keylenx-len : goal.returns-then-keylenx-len
+pub returns-in-Equal : goal.returns-in-Equal
 unfolding past_inline
-returns-then-keylenx-len c = rw (order_greater _ _ c.if-keylenx-len.true) c.find_position_after_inline.ensures
+returns-in-Equal c = rw (ordered _ _ _ _ c.cmp.ensures c.in-Equal.is)
 
-pub returns : goal.returns
+pub returns-in-Greater : goal.returns-in-Greater
 unfolding past_inline
-returns c = rw (order_equal _ _ c.if-keylenx-len.false c.if-len-keylenx.false)
+returns-in-Greater c = rw (ordered _ _ _ _ c.cmp.ensures c.in-Greater.is) c.find_position_after_inline.ensures

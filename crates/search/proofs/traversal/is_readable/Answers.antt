@@ -1,16 +1,16 @@
--- The tests stand in the order of the definition; the last two are its one test on the sum, asked without adding.
-use Rattle.base.specs.Kit.{arith}
+-- The tests stand in the order of the definition; the last three are its one test on the sum, asked without adding.
+use Rattle.base.specs.Kit.{arith, lt-leb}
 use Rattle.search.proofs.TraversalLaws.{too_low, too_high, room}
 use Rattle.search.proofs.traversal.is_readable.Goals as goal
 
-pub returns-then-at-lt8 : goal.returns-then-at-lt8
-returns-then-at-lt8 c = search too_low
+pub returns-then-at-size : goal.returns-then-at-size
+returns-then-at-size c = room _ _ _ (omega arith) (omega arith)
 
-pub returns-then-size-lt32 : goal.returns-then-size-lt32
-returns-then-size-lt32 c = too_high _ _ _ (omega arith) (omega arith)
+pub returns-else-at-size : goal.returns-else-at-size
+returns-else-at-size c = rw (lt-leb _ _ c.if-at-size.false) (too_high _ _ _ (omega arith) (omega arith))
 
-pub returns-then-size-at : goal.returns-then-size-at
-returns-then-size-at c = too_high _ _ _ (omega arith) (omega arith)
+pub returns-else-size-ge32 : goal.returns-else-size-ge32
+returns-else-size-ge32 c = rw (lt-leb _ _ c.if-size-ge32.false) (too_high _ _ _ (omega arith) (omega arith))
 
-pub returns : goal.returns
-returns c = room _ _ _ (omega arith) (omega arith)
+pub returns-else-at-ge8 : goal.returns-else-at-ge8
+returns-else-at-ge8 c = rw (lt-leb _ _ c.if-at-ge8.false) (too_low _ _ _ (omega arith))

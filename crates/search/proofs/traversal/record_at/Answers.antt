@@ -3,12 +3,11 @@ use Rattle.base.specs.Kit.{sym, ◌∙◌, arith}
 use Rattle.base.proofs.Choice.{choices}
 use Rattle.search.proofs.TraversalLaws.{in_image, not_aligned, not-readable, versioned}
 use Rattle.search.proofs.traversal.record_at.Goals as goal
+use Rattle.search.proofs.traversal.record_at.Goals.{then-at-ne0-via-then-at-ne0, then-at-ne0-via-else-at-ne0+then-not-is_readable}
 
 pub returns-then-at-ne0 : goal.returns-then-at-ne0
-returns-then-at-ne0 c = search not_aligned
-
-pub returns-then-not-is_readable : goal.returns-then-not-is_readable
-returns-then-not-is_readable c = search not-readable
+returns-then-at-ne0 c =
+    elim c.then-at-ne0.branch [ then-at-ne0-via-then-at-ne0 w ↦ not_aligned _ _ w.if-at-ne0.true | then-at-ne0-via-else-at-ne0+then-not-is_readable w ↦ search not-readable ]
 
 pub version-version-requires : goal.version-version-requires
 version-version-requires c = omega (arith, in_image _ _ _ (sym c.is_readable.ensures ∙ c.if-not-is_readable.false))

@@ -1,19 +1,16 @@
 -- The invariant: what is left, from separator i on and above the one before it, comes to the same as the whole.
-use Rattle.base.specs.Kit.{rules, sub-zero}
-use Rattle.verify.proofs.RecordTests.{not_above, not-below, between, all_between}
+use Rattle.base.specs.Kit.{sub-zero}
+use Rattle.verify.proofs.RecordTests.{outside, between, all_between}
 use Rattle.verify.proofs.record.has_separators.Goals as goal
 
 pub loop-i-init : goal.loop-i-init
-loop-i-init c = (search rules, simp sub-zero)
+loop-i-init c = simp sub-zero
 
 pub returns-then-k-low : goal.returns-then-k-low
-returns-then-k-low c = search not_above
-
-pub returns-then-top-k : goal.returns-then-top-k
-returns-then-top-k c = search not-below
+returns-then-k-low c = search outside
 
 pub loop-i-preserved : goal.loop-i-preserved
-loop-i-preserved c = (search rules, search between)
+loop-i-preserved c = search between
 
 pub returns : goal.returns
 returns c = search all_between

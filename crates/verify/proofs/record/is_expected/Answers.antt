@@ -1,12 +1,11 @@
--- The test is the definition's.
-use Rattle.base.proofs.Tests.{tests}
+-- The tests are the definition's.
 use Rattle.verify.specs.Check.{expected}
 use Rattle.verify.proofs.record.is_expected.Goals as goal
 
-pub returns-then-p : goal.returns-then-p
+pub returns-then-not-p : goal.returns-then-not-p
 unfolding expected
-returns-then-p c = search (tests, c.if-p.true)
+returns-then-not-p c = rw c.if-not-p.true
 
-pub returns : goal.returns
+pub returns-else-not-p : goal.returns-else-not-p
 unfolding expected
-returns c = search (tests, c.if-p.false)
+returns-else-not-p c = rw c.if-not-p.false

@@ -5,16 +5,17 @@ use Rattle.verify.specs.Check.{reachable}
 use Rattle.verify.proofs.RecordTests.{latest}
 use Rattle.verify.proofs.record.is_reachable.Goals as goal
 
-pub returns : goal.returns
+pub returns-then-p-at : goal.returns-then-p-at
 unfolding reachable
-returns c =
+returns-then-p-at c =
     let a = c.args in
-    rw (eq-eqb _ _ c.if-at-ne0.false, le-leb _ _ c.if-at-p.false) (latest a.at a.size (length a.image.now) (omega arith))
+    rw (eq-eqb _ _ c.if-at-eq0.true, le-leb _ _ c.if-p-at.true)
+    (latest a.at a.size (length a.image.now) (omega (arith, c.requires.sized.long, c.requires.size_bound)))
 
-pub returns-then-at-ne0 : goal.returns-then-at-ne0
+pub returns-else-p-at : goal.returns-else-p-at
 unfolding reachable
-returns-then-at-ne0 c = search tests
+returns-else-p-at c = search tests
 
-pub returns-then-at-p : goal.returns-then-at-p
+pub returns-else-at-eq0 : goal.returns-else-at-eq0
 unfolding reachable
-returns-then-at-p c = search tests
+returns-else-at-eq0 c = search tests

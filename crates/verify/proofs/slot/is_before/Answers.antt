@@ -1,4 +1,4 @@
--- The tests stand in the order of the definition.
+-- The tests are the definition's.
 use Rattle.base.proofs.Tests.{tests}
 use Rattle.verify.specs.Check.{before}
 use Rattle.verify.proofs.slot.is_before.Goals as goal
@@ -7,14 +7,14 @@ pub returns-then-ikey-ikey2 : goal.returns-then-ikey-ikey2
 unfolding before
 returns-then-ikey-ikey2 c = search tests
 
-pub returns-then-ikey-ikey2-2 : goal.returns-then-ikey-ikey2-2
+pub returns-then-keylenx-keylenx2 : goal.returns-then-keylenx-keylenx2
 unfolding before
-returns-then-ikey-ikey2-2 c = search tests
+returns-then-keylenx-keylenx2 c = search tests
 
-pub returns-then-keylenx2-keylenx : goal.returns-then-keylenx2-keylenx
+pub returns-else-keylenx-keylenx2 : goal.returns-else-keylenx-keylenx2
 unfolding before
-returns-then-keylenx2-keylenx c = search tests
+returns-else-keylenx-keylenx2 c = search tests
 
-pub returns : goal.returns
+pub returns-else-ikey-ikey2-2 : goal.returns-else-ikey-ikey2-2
 unfolding before
-returns c = search tests
+returns-else-ikey-ikey2-2 c = search tests

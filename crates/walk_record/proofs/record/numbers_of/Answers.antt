@@ -1,5 +1,5 @@
 -- `record::numbers_of` meets its contract. The loop's invariant: what the turns left make of the numbers is what all turns make
--- of the first eleven. The measure is the turns left.
+-- of the first eleven.
 use Rattle.base.specs.Kit.{refl, sym, ap, ◌∙◌, List, ℕ, length-set, rules}
 use Rattle.walk_record.proofs.Turns.{spread, spread-more, spread_done, spread_all}
 use Rattle.walk_record.proofs.record.numbers_of.Goals as goal

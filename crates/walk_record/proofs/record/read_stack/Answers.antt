@@ -1,5 +1,5 @@
 -- `record::read_stack` meets its contract. The loop's invariant: what the turns left make of the stack is what all turns make of
--- the empty one. The measure is the turns left.
+-- the empty one.
 use Rattle.base.specs.Kit.{refl, sym, ◌∙◌, length-set, rules}
 use Rattle.walk_record.specs.Record.{entry_at}
 use Rattle.walk_record.proofs.Turns.{fill_more, fill_done, fill_all}

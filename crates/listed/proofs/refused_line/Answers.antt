@@ -1,8 +1,0 @@
--- `listed::refused_line` meets its contract: sheet writes the line.
-use Rattle.listed.specs.CodeLines.{blank}
-use Rattle.listed.proofs.LineLaws.{line_made}
-use Rattle.listed.proofs.refused_line.Goals as goal
-
-pub returns : goal.returns
-unfolding blank
-returns c = line_made _ _ _ _ c.refused_line-len.ensures
