@@ -1,11 +1,11 @@
 -- Laws of declines: an answer by its two cases, what `and_then` comes to, and what a `?` returns.
 use Rattle.std.specs.Prelude.{◌≡◌, Result, Ok, Err, IsErrAnd}
 use Rattle.base.specs.Kit.{refl, arith}
-use Rattle.base.specs.Decline.{number_of, and_then}
+use Rattle.base.specs.Decline.{decline_number, and_then}
 use Rattle.base.specs.declared.Decline.{Decline}
 
 -- no decline's number is 0
-pub never-zero : (d : Decline) → number_of d ≡ 0 → ⊥
+pub never-zero : (d : Decline) → decline_number d ≡ 0 → ⊥
 never-zero d e = grind arith
 
 -- the two cases of an answer, with what it is in each

@@ -1,33 +1,38 @@
 -- The numbers of the declines: "A declined call returns its number"; the check's are 1 to 10, a placing's 1, 2 and 11 to 13, a step's 21
 -- to 23, the builder's 31 to 33.
-use Rattle.std.specs.Prelude.{◌≡◌, ℕ, Result, Ok, Err}
+use Rattle.std.specs.Prelude.{◌≡◌, ℕ, Option, Some, None, Result, Ok, Err}
 use Rattle.base.specs.declared.Decline.{Decline}
 use Rattle.base.specs.declared.Decline.TheVariants.{ImageLength, Trailer, RecordPlace, RecordVersion, LeafPermutation, SlotLength, SlotKey, SlotOrder, LeafChain, KeyCount, CursorLength, BoundKind, BoundLength, WalkRange, Unreadable, MovesSpent, SheetForm, SheetOrder, ImageRoom}
 
-abbrev pub number_of : Decline → ℕ
-number_of ImageLength = 1
-number_of Trailer = 2
-number_of RecordPlace = 3
-number_of RecordVersion = 4
-number_of LeafPermutation = 5
-number_of SlotLength = 6
-number_of SlotKey = 7
-number_of SlotOrder = 8
-number_of LeafChain = 9
-number_of KeyCount = 10
-number_of CursorLength = 11
-number_of BoundKind = 12
-number_of BoundLength = 13
-number_of WalkRange = 21
-number_of Unreadable = 22
-number_of MovesSpent = 23
-number_of SheetForm = 31
-number_of SheetOrder = 32
-number_of ImageRoom = 33
+abbrev pub decline_number : Decline → ℕ
+decline_number ImageLength = 1
+decline_number Trailer = 2
+decline_number RecordPlace = 3
+decline_number RecordVersion = 4
+decline_number LeafPermutation = 5
+decline_number SlotLength = 6
+decline_number SlotKey = 7
+decline_number SlotOrder = 8
+decline_number LeafChain = 9
+decline_number KeyCount = 10
+decline_number CursorLength = 11
+decline_number BoundKind = 12
+decline_number BoundLength = 13
+decline_number WalkRange = 21
+decline_number Unreadable = 22
+decline_number MovesSpent = 23
+decline_number SheetForm = 31
+decline_number SheetOrder = 32
+decline_number ImageRoom = 33
 
 -- n is a decline's number.
 abbrev pub HasNumber : Decline → ℕ → Type 0
-HasNumber d n = n ≡ number_of d
+HasNumber d n = n ≡ decline_number d
+
+-- A call's number, by its decline if it has one: 0 for none.
+unfoldable pub number_if : Option Decline → ℕ
+number_if None = 0
+number_if (Some d) = decline_number d
 
 -- What f says of an answer; a decline stays.
 unfoldable pub and_then : {A B : Type 0} → Result A Decline → (A → Result B Decline) → Result B Decline

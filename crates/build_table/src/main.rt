@@ -6,12 +6,30 @@
 
 use base::Decline;
 use key::first;
-use requests::{Request, Requests};
-use std::{fmt, io};
+use requests::{Request, line};
+use std::fmt;
 use verify::Counts;
 
-// A request's form in which the image is shown whole. One test of one number: an enum would be no plainer.
-const WHOLE: u8 = 1;
+// The requests: more than there are.
+const MOST: usize = 1000;
+
+// What a request asks for.
+#[derive(Clone, Copy, PartialEq, Eq)]
+enum Form {
+    // Its line alone.
+    Line,
+    // The image's bytes and its sheet behind the line.
+    Whole,
+}
+
+impl From<u8> for Form {
+    fn from(number: u8) -> Form {
+        match number {
+            1 => Form::Whole,
+            _ => Form::Line,
+        }
+    }
+}
 
 // What the output's bytes are before.
 const MARK: u8 = 165;
@@ -53,57 +71,53 @@ impl fmt::Display for Verdict {
                     sub_layers,
                 },
             ) => write!(f, "accepted {leaves} {value_slots} {sub_layers}"),
-            Err(decline) => write!(f, "refused {}", u8::from(decline)),
+            Err(decline) => write!(f, "refused {decline}"),
         }
     }
 }
 
-// A request's lines, with an output whose bytes are marks.
-fn lines(rt: &impl Print, request: &Request, out: &mut [u8]) -> io::Result<()> {
-    let name = request.name.as_str();
-    match builder::build(&request.image, out) {
+// A request's lines, with an output of its own.
+fn answer(rt: &impl Print, request: &Request<Form>, out: &mut [u8]) {
+    let name = request.name;
+    out.fill(MARK);
+    match builder::build(request.image, out) {
         Ok(n) => {
             let hash = fnv(out);
             let image = first(out, n);
             let verdict = Verdict(verify::check_image(image));
-            println!(rt; "{name} 0 {n} {hash:016x} {verdict}")?;
-            if request.form == WHOLE {
-                println!(rt; "{}", Hex(image))?;
+            line(rt, name, format_args!(" 0 {n} {hash:016x} {verdict}"));
+            if request.form == Form::Whole {
+                line(rt, b"", Hex(image));
                 sheet_out::put_sheet(rt, image);
             }
-            Ok(())
         }
         Err(decline) => {
-            let number = u8::from(decline);
             let hash = fnv(out);
-            println!(rt; "{name} {number} 0 {hash:016x}")
+            line(rt, name, format_args!(" {decline} 0 {hash:016x}"));
         }
     }
 }
 
-// The output's length, in the first four bytes of the cursor; none where that is too long.
-fn room(request: &Request) -> Option<usize> {
+// The output's length, in the first four bytes of the cursor.
+fn room(request: &Request<Form>) -> usize {
     let mut bytes = [0u8; 4];
     let n = request.cursor.len().min(4);
     bytes[..n].copy_from_slice(&request.cursor[..n]);
-    let room = u32::from_le_bytes(bytes) as usize;
-    (room <= LONGEST).then_some(room)
+    u32::from_le_bytes(bytes) as usize
 }
 
-// The requests up to the first that has no such output.
-fn run(rt: &(impl Input + Print + AllocGlobal)) -> io::Result<()> {
-    for request in Requests::new(rt.alloc(), rt.reader()) {
-        let request = request?;
-        let Some(room) = room(&request) else {
-            break;
-        };
-        let mut out = vec![in rt.alloc(); MARK; room]?;
-        lines(rt, &request, &mut out)?;
-    }
-    Ok(())
-}
-
-// An output that fails is passed over.
+// The requests up to the first that asks for a longer output.
 fn main(rt: HostRuntime) {
-    let _ = run(&rt);
+    let mut input = rt.reader();
+    let mut space = [0u8; requests::SPACE];
+    let mut out = [0u8; LONGEST];
+    for _ in 0..MOST {
+        let Some(request) = requests::read(&mut input, &mut space) else {
+            return;
+        };
+        let Some(out) = out.get_mut(..room(&request)) else {
+            return;
+        };
+        answer(&rt, &request, out);
+    }
 }

@@ -19,12 +19,13 @@ use Rattle.building.proofs.Puts.{put-length}
 use Rattle.building.proofs.Layers.{layer_ok}
 use Rattle.building.proofs.Towers.{leaves_end}
 use Rattle.building.proofs.Image.{image_of-length}
+use Rattle.groups.specs.declared.LayerLines.{LayerLines}
 use Rattle.groups.specs.CodeGroups.{lines_at, Fit}
 use Rattle.groups.proofs.TopLayer.{lines_top}
 use Rattle.image_out.specs.CodeRows.{trailer_bytes}
 use Rattle.image_out.proofs.PutRows.{Wrote, and_then, zero-bytes}
 use Rattle.layers_out.specs.CodeCycle.{layer_at, LayerRoom, LayerWrote}
-use Rattle.layers_out.specs.declared.Run.{Run}
+use Rattle.layers_out.specs.declared.run.Run.{Run}
 
 put_whole : (d s : List ℕ) → length s ≡ length d → put d 0 s ≡ s
 put_whole d s e = rw (take-length s, drop_of_length-le d {i = 0 + length s} (omega arith)) (append-nil s)
@@ -42,9 +43,9 @@ module _ (s : List ℕ) (line n : ℕ) (fit : Fit s 31 line n) where
   same_lines : lines_at s 0 line n ≡ pairs
   same_lines = lines_top s line n
 
-  top-layer : layer_at s 31 line n ≡ shape pairs
+  pub top_layer : layer_of 32 (lines_at s 0 line n) ≡ shape pairs
   unfolding shape
-  top-layer = ap (layer_of 32) same_lines
+  top_layer = ap (layer_of 32) same_lines
 
   plain : leaves_n (shape pairs) ≤ limit → PlainN 31 12 (shape pairs)
   unfolding shape
@@ -62,7 +63,7 @@ module _ (s : List ℕ) (line n : ℕ) (fit : Fit s 31 line n) where
       ∙ omega (arith, length_n (shape pairs) 31 12 8 (plain few))
 
   -- THE WRITES
-  module _ (out : List ℕ) (long : length out ≡ end_n 8 (shape pairs) + 32) (short : length out ≤ 16777216) where
+  module _ (l : LayerLines) (top : layer_at l ≡ shape pairs) (out : List ℕ) (long : length out ≡ end_n 8 (shape pairs) + 32) (short : length out ≤ 16777216) where
     few : leaves_n (shape pairs) ≤ limit
     few = omega (arith, leaves_end (shape pairs) 8)
 
@@ -76,19 +77,19 @@ module _ (s : List ℕ) (line n : ℕ) (fit : Fit s 31 line n) where
       long₁ : length out₁ ≡ length out
       long₁ = ap length e₁ ∙ put-length out (le_bytes 8 0) 0 (omega (arith, le_bytes-length 8 0, grow_n (shape pairs) 8))
 
-      pub layers-room : LayerRoom out₁ s 31 8 line n
-      layers-room = record { fit = fit; some = omega arith; fits = rw top-layer (omega (arith, long₁)); short = omega (arith, long₁) }
+      pub layers-room : LayerRoom out₁ 8 l
+      layers-room = record { some = omega arith; fits = rw top (omega (arith, long₁)); short = omega (arith, long₁) }
 
-      module _ (out₂ : List ℕ) (q : Run) (w : LayerWrote out₁ out₂ 8 q (layer_at s 31 line n)) where
+      module _ (out₂ : List ℕ) (q : Run) (w : LayerWrote out₁ out₂ 8 q (layer_at l)) where
         place : q.at ≡ end_n 8 (shape pairs)
-        place = w.at ∙ ap (end_n 8) top-layer
+        place = w.at ∙ ap (end_n 8) top
 
         root : q.node ≡ offset_n (tree_for pairs)
         unfolding tree_for
-        root = w.node ∙ ap (stands_at 8) top-layer ∙ sym (stands-offset (shape pairs) 8 0)
+        root = w.node ∙ ap (stands_at 8) top ∙ sym (stands-offset (shape pairs) 8 0)
 
         bytes : out₂ ≡ put out₁ 8 records
-        bytes = w.bytes ∙ ap (λ (y : Node). put out₁ 8 (bytes_n (placed_n 8 0 y))) top-layer
+        bytes = w.bytes ∙ ap (λ (y : Node). put out₁ 8 (bytes_n (placed_n 8 0 y))) top
 
         long₂ : length out₂ ≡ length out
         long₂ = ap length bytes ∙ put-length out₁ records 8 (omega (arith, records-length, long₁)) ∙ long₁
@@ -110,3 +111,10 @@ module _ (s : List ℕ) (line n : ℕ) (fit : Fit s 31 line n) where
             w₃.same ∙ put_whole out (le_bytes 8 0 ++ records ++ t) (w₃.size ∙ omega (arith, records-length))
             ∙ append_assoc (le_bytes 8 0) records t
             ∙ ap₂ (λ (x y : List ℕ). x ++ (records ++ y)) (zero-bytes 8) (ap (λ (y : ℕ). trailer_bytes q.at q.node y) k ∙ rw (root, a) refl)
+
+-- A TOP LAYER'S LINES, as the code has them
+pub fit_top : (l : LayerLines) → l.below ≡ 31 → Fit l.sheet.now 31 l.line l.left
+fit_top l e = subst (λ (b : ℕ). Fit l.sheet.now b l.line l.left) e l.fit
+
+pub layer_top : (l : LayerLines) → l.below ≡ 31 → layer_at l ≡ shape (pairs_in l.left (drop l.line l.sheet.now))
+layer_top l e = rw e (top_layer l.sheet.now l.line l.left (fit_top l e))

@@ -4,7 +4,7 @@
 use Rattle.std.specs.Prelude.{◌&&◌, Result, Ok, Err}
 use Rattle.base.specs.Kit.{Bool, List, ℕ, leb, length}
 use Rattle.base.specs.Pick.{pick}
-use Rattle.base.specs.Decline.{number_of}
+use Rattle.base.specs.Decline.{decline_number}
 use Rattle.base.specs.declared.Decline.{Decline}
 use Rattle.base.specs.declared.Decline.TheVariants.{ImageRoom}
 use Rattle.reading.specs.Form.{Sheet}
@@ -34,7 +34,7 @@ built_out s out = out_after (read_sheet s) out
 -- The number of an answer, 0 where an image was written; and the image's length, 0 where it was declined.
 unfoldable pub built_number : Result ℕ Decline → ℕ
 built_number (Ok n) = 0
-built_number (Err d) = number_of d
+built_number (Err d) = decline_number d
 
 unfoldable pub built_length : Result ℕ Decline → ℕ
 built_length (Ok n) = n

@@ -10,12 +10,11 @@ ghost use Rattle.layering.specs.Accepted.{end_n};
 ghost use Rattle.reading.specs.Pairs.{pairs_in};
 ghost use Rattle.building.specs.Shape.{shape};
 ghost use Rattle.building.specs.Build.{build};
-ghost use Rattle.groups.specs.CodeGroups.{Fit};
 ghost use Rattle.builder.specs.Answer.{built, built_out};
 
 use base::Decline;
-use groups::layer_size;
-use image_out::{put_trailer, put_u64};
+use groups::{LayerLines, layer_size};
+use image_out::{put_le, put_trailer};
 use layers_out::write_layer;
 use reading::read_sheet;
 
@@ -30,23 +29,29 @@ pub fn build(sheet: &[u8], out: &mut [u8]) -> Result<usize, Decline>
         × (out.new ≡ built_out sheet.now out.old) }
 {
     let opened = read_sheet(sheet)?;
-    let size = layer_size(sheet, 31, opened.line, opened.count);
+    let top = LayerLines {
+        sheet,
+        below: 31,
+        line: opened.line,
+        left: opened.count,
+    };
+    let size = layer_size(top);
     let end = size + FRAME;
     if LONGEST < end || out.len() < end {
         return Err(Decline::ImageRoom);
     }
-    write_image(&mut out[..end], sheet, opened.line, opened.count);
+    write_image(&mut out[..end], top);
     Ok(end)
 }
 
-// The image of some station lines, in output of just its length.
-fn write_image(out: &mut [u8], sheet: &[u8], line: usize, count: usize)
-    requires fit { Fit sheet.now 31 line count }
-    requires out_len { length out.old ≡ end_n 8 (shape (pairs_in count (drop line sheet.now))) + 32 }
+// The image of a top layer's lines, in output of just its length.
+fn write_image(out: &mut [u8], top: LayerLines)
+    requires is_top { top.below ≡ 31 }
+    requires out_len { length out.old ≡ end_n 8 (shape (pairs_in top.left (drop top.line top.sheet.now))) + 32 }
     requires out_len_bound { length out.old ≤ 16777216 }
-    ensures { out.new ≡ build (pairs_in count (drop line sheet.now)) }
+    ensures { out.new ≡ build (pairs_in top.entry.left (drop top.entry.line top.entry.sheet.now)) }
 {
-    put_u64(out, 0, 0);
-    let r = write_layer(out, sheet, 31, 8, line, count);
-    put_trailer(out, r.at, r.node as u64, count as u64);
+    put_le(out, 0, 8, 0);
+    let r = write_layer(out, 8, top);
+    put_trailer(out, r.at, r.node as u64, top.left as u64);
 }

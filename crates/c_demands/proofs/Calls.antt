@@ -6,7 +6,7 @@ use Rattle.base.specs.Kit.{refl, ap, ap₂, sym, ◌∙◌, Bool, true, false, n
 use Rattle.base.specs.Pick.{pick}
 use Rattle.base.proofs.Choice.{pick_ind, by_test}
 use Rattle.walk.specs.Walk.{number_of, nothing_yet, walk_ok, answer_numbers}
-use Rattle.scan.specs.Machine.{Scan, run, is_ended, scan_of, stepped, finished, advance, step}
+use Rattle.scan.specs.Machine.{run, is_ended, scan_of, stepped, finished, advance, step}
 use Rattle.lent.specs.Form.{by_value, step_as}
 use Rattle.walk_record.specs.Record.{numbers_of, read_walk, is_record}
 use Rattle.record_step.specs.Step.{said_in, step_of, step_number, left, step_numbers, step_buf}
@@ -14,14 +14,14 @@ use Rattle.record_step.proofs.Kept.{step_keeps}
 use Rattle.demands.specs.Demand.{Call, steps, Lent, said_by, said, moves_of, own, Foreign}
 use Rattle.demands.specs.HandedOut.{handed_by}
 use Rattle.punchbronze.specs.Interface.{said_numbers, out_after, StepLeft}
-use Rattle.c_demands.specs.Types.{Answer, Stepped, Walk}
+use Rattle.c_demands.specs.Types.{Held, Answer, Stepped, Walk}
 use Rattle.c_demands.specs.CDemand.{CCall, CLeft, c_step, c_steps, Kept, CLent, is_made, made, c_said_by, c_said, c_moves_by, c_moves_of, c_handed_by, c_handed, Untouched, CForeign}
 
 -- A declined step has made no move, its walk is as it came, and it carries zeros.
 abbrev Stays : Walk → Stepped → Type 0
 Stays w s = (number_of s.answer ≡ 0 → ⊥) → (s.moves ≡ 0) × (s.walk ≡ w) × (s.handed ≡ nothing_yet)
 
-stays_by : (w : Walk) (a : Answer) (last : Bool) (moves : ℕ) (s : Scan) → Stays w (stepped w a last moves s)
+stays_by : (w : Walk) (a : Answer) (last : Bool) (moves : ℕ) (s : Held) → Stays w (stepped w a last moves s)
 unfolding number_of
 stays_by w (Ok (Some key)) last moves s h = absurd (h refl)
 stays_by w (Ok None) last moves s h = absurd (h refl)

@@ -5,3 +5,4 @@ pub use Rattle.walk.specs.declared.scan_state.HandedOut.{HandedOut}
 pub use Rattle.walk.specs.declared.scan_state.Placed.{Placed}
 pub use Rattle.walk.specs.declared.scan_state.Stepped.{Stepped}
 pub use Rattle.walk.specs.declared.scan_state.Walk.{Walk}
+pub use Rattle.scan.specs.declared.scan_ctx.Held.{Held}

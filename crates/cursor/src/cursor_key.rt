@@ -1,7 +1,7 @@
 // The key that a walk has come to (the Rust's cursor_key.rs).
 //
-// The Rust's CursorKey holds its buffer, and its methods change it in place. Here the buffer is lent to the methods that
-// read or write it, and the three numbers go by value, so that no call copies 256 bytes.
+// The Rust's CursorKey holds its buffer, and its methods change it in place. Here the three numbers go by value, so that no call copies
+// 256 bytes; the buffer is lent to a reader beside them, and to the methods that write it.
 ghost use Rattle.std.specs.Prelude.{◌≡◌, ◌+◌, ◌≤◌, ◌<◌};
 ghost use Rattle.base.specs.Kit.{length};
 ghost use Rattle.key.specs.Order.{byte_order};
@@ -12,7 +12,8 @@ use std::cmp::Ordering;
 // The length that `unshift` sets: one more than an ikey has, so that the cursor stands past the layer's slot.
 pub const UNSHIFT_SENTINEL_LEN: usize = 9;
 
-// The cursor as a walk keeps it.
+// The cursor as a walk keeps it: the Rust's CursorKey, field by field, and as C's record has it (an array with a length, and no heap). A
+// CursorPlace within it would be the Rust's structure no longer.
 #[derive(Clone, Copy, Debug, PartialEq, Eq)]
 pub struct CursorKey {
     pub buf: [u8; 256],
@@ -29,7 +30,15 @@ pub struct CursorPlace {
     pub ikey: u64,
 }
 
-// A cursor at the root layer that holds `key`, zero-filled.
+// The cursor with its buffer, as searches read it: its key lies within the buffer.
+#[derive(Clone, Copy)]
+pub struct CursorReader<'a> {
+    pub place: CursorPlace,
+    pub buf: &'a [u8],
+    ghost in_buffer: { place.offset + place.len ≤ length buf.now },
+}
+
+// A cursor at the root layer that holds `key`, zero-filled. Its bound on the length: see key's `padded`.
 #[tactic(auto, unfolding(crate::specs::CursorKey::from_slice))]
 pub fn from_slice(key: &[u8]) -> CursorKey
     requires { length key.now ≤ 256 }
@@ -57,20 +66,6 @@ impl CursorPlace {
         }
     }
 
-    // One layer down, where the cursor's own bytes lead into it.
-    #[tactic(auto, unfolding(crate::specs::CursorKey::shift))]
-    pub fn shift(self, buf: &[u8; 256]) -> CursorPlace
-        requires lt_len { 8 < self.len }
-        requires len_bound { self.offset + self.len ≤ 256 }
-        ensures { result ≡ shift self buf.now }
-    {
-        CursorPlace {
-            offset: self.offset + 8,
-            len: self.len - 8,
-            ikey: key::ikey_of(self.suffix(buf)),
-        }
-    }
-
     // One layer up, past the slot of the layer that was left.
     #[tactic(auto, unfolding(crate::specs::CursorKey::unshift))]
     pub fn unshift(self, buf: &[u8; 256]) -> CursorPlace
@@ -93,20 +88,7 @@ impl CursorPlace {
         8 < self.len
     }
 
-    // The key's bytes past the layer's ikey.
-    #[tactic(auto, unfolding(crate::specs::CursorKey::suffix_of, crate::specs::CursorKey::has_suffix, base::specs::Pick::pick))]
-    pub fn suffix<'a>(self, buf: &'a [u8]) -> &'a [u8]
-        requires { self.offset + self.len ≤ length buf.now }
-        ensures { result.now ≡ suffix_of self buf.now }
-    {
-        if self.has_suffix() {
-            key::part_of(buf, self.offset + 8, self.len - 8)
-        } else {
-            &[]
-        }
-    }
-
-    // The cursor against a slot's ikey and keylenx.
+    // The cursor against a slot's ikey and keylenx, a number here: it is ordered against the cursor's length.
     #[tactic(auto, unfolding(crate::specs::CursorKey::compare_slot, crate::specs::CursorKey::has_suffix, key::specs::Order::order, key::specs::Order::then, base::specs::Pick::pick))]
     pub fn compare(self, other_ikey: u64, keylenx: usize) -> Ordering
         ensures { result ≡ compare_slot self other_ikey keylenx }
@@ -124,19 +106,10 @@ impl CursorPlace {
         }
     }
 
-    // The cursor's suffix against a stored one, in plain byte order.
-    pub fn compare_suffix(self, buf: &[u8], stored: &[u8]) -> Ordering
-        requires { self.offset + self.len ≤ length buf.now }
-        ensures { result ≡ byte_order (suffix_of self buf.now) stored.now }
-    {
-        key::compare(self.suffix(buf), stored)
-    }
-
     // A slot's ikey into the buffer, at the layer's place.
     #[tactic(auto, unfolding(crate::specs::CursorKey::with_ikey, crate::specs::CursorKey::store_ikey, key::specs::Ikey::ikey_bytes, key::specs::Ikey::digits))]
-    pub fn assign_store_ikey(self, buf: &mut [u8], ikey: u64) -> CursorPlace
-        requires buf_len { length buf.old ≡ 256 }
-        requires offset_bound { self.offset ≤ 248 }
+    pub fn assign_store_ikey(self, buf: &mut [u8; 256], ikey: u64) -> CursorPlace
+        requires { self.offset ≤ 248 }
         ensures { (result ≡ with_ikey self ikey) × (buf.new ≡ store_ikey buf.old self.offset ikey) }
     {
         key::copy_in(buf, self.offset, &key::ikey_bytes(ikey));
@@ -145,9 +118,8 @@ impl CursorPlace {
 
     // A slot's suffix into the buffer, past the layer's ikey; the length of both.
     #[tactic(auto, unfolding(crate::specs::CursorKey::store_suffix))]
-    pub fn assign_store_suffix(self, buf: &mut [u8], suffix: &[u8]) -> usize
-        requires buf_len { length buf.old ≡ 256 }
-        requires suffix_bound { self.offset + 8 + length suffix.now ≤ 256 }
+    pub fn assign_store_suffix(self, buf: &mut [u8; 256], suffix: &[u8]) -> usize
+        requires { self.offset + 8 + length suffix.now ≤ 256 }
         ensures { (result ≡ 8 + length suffix.now) × (buf.new ≡ store_suffix buf.old self.offset suffix.now) }
     {
         key::copy_words_in(buf, self.offset + 8, suffix);
@@ -159,5 +131,39 @@ impl CursorPlace {
         ensures { result ≡ with_length self len }
     {
         CursorPlace { len, ..self }
+    }
+}
+
+impl<'a> CursorReader<'a> {
+    // The key's bytes past the layer's ikey.
+    #[tactic(auto, unfolding(crate::specs::CursorKey::suffix_of, crate::specs::CursorKey::has_suffix, base::specs::Pick::pick))]
+    pub fn suffix(self) -> &'a [u8]
+        ensures { result.now ≡ suffix_of self.entry.place self.entry.buf.now }
+    {
+        if self.place.has_suffix() {
+            key::part_of(self.buf, self.place.offset + 8, self.place.len - 8)
+        } else {
+            &[]
+        }
+    }
+
+    // The cursor's suffix against a stored one, in plain byte order.
+    pub fn compare_suffix(self, stored: &[u8]) -> Ordering
+        ensures { result ≡ byte_order (suffix_of self.entry.place self.entry.buf.now) stored.now }
+    {
+        key::compare(self.suffix(), stored)
+    }
+
+    // One layer down, where the cursor's own bytes lead into it.
+    #[tactic(auto, unfolding(crate::specs::CursorKey::shift))]
+    pub fn shift(self) -> CursorPlace
+        requires { 8 < self.place.len }
+        ensures { result ≡ shift self.entry.place self.entry.buf.now }
+    {
+        CursorPlace {
+            offset: self.place.offset + 8,
+            len: self.place.len - 8,
+            ikey: key::ikey_of(self.suffix()),
+        }
     }
 }

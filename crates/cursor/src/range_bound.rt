@@ -23,7 +23,7 @@ pub struct RangeBound {
     pub key: [u8; 256],
 }
 
-// A bound as the moves take it, lent: its kind, and its key's bytes.
+// A bound as the moves take it, lent: its kind, and its key's bytes. (The public calls take the two one by one, as 01 and C name them.)
 #[derive(Clone, Copy)]
 pub struct End<'a> {
     pub kind: u8,
@@ -58,7 +58,7 @@ pub struct Tested {
     pub comparisons: usize,
 }
 
-// The bound that a placing keeps: an unbounded one keeps no key.
+// The bound that a placing keeps: an unbounded one keeps no key. Its bound on the length: see key's `padded`.
 #[tactic(auto, unfolding(crate::specs::RangeBound::bound_of, base::specs::Pick::pick))]
 pub fn bound_of(kind: u8, key: &[u8]) -> RangeBound
     requires { length key.now ≤ 256 }

@@ -6,7 +6,7 @@ use Rattle.base.specs.Pick.{pick}
 use Rattle.base.proofs.Choice.{pick_ind}
 use Rattle.key.specs.Ikey.{ikey_of}
 use Rattle.key.specs.Part.{padded}
-use Rattle.demands.specs.Types.{Ordering, CursorPlace, StartMode, Above, From, WalkState, WalkStateStart as Start, WalkStateRetry as Retry}
+use Rattle.demands.specs.Types.{Held, Ordering, CursorPlace, StartMode, Above, From, WalkState, WalkStateStart as Start, WalkStateRetry as Retry}
 use Rattle.key.proofs.Order.{Cmp, is_lt, is_eq, is_gt, cmp}
 use Rattle.key.proofs.Bytes.{Bytes}
 use Rattle.key.proofs.Ikey.{rank}
@@ -24,7 +24,7 @@ use Rattle.layering.proofs.Descent.{Past, past_asc, NextHop, route_n, descent_n,
 use Rattle.search.specs.Traversal.{reach}
 use Rattle.moves.specs.declared.context.ScanState.TheVariants as loop
 use Rattle.walk.specs.Placing.{start_state, fresh_walk}
-use Rattle.scan.specs.Machine.{Scan, scan_state, last_ikey, scan_of}
+use Rattle.scan.specs.Machine.{scan_state, last_ikey, scan_of}
 use Rattle.demands.proofs.Search.{reached-at, stands}
 use Rattle.demands.proofs.Relation.{At, Nexts, Rep}
 use Rattle.demands.proofs.Follow.{arrived, retried}
@@ -56,7 +56,7 @@ unfolding start_state pick
 above_retry x h = rw (le-ltb 8 (length x) h)
 
 -- Where a fresh walk stands, s its first scan.
-pub record Begun (image : List ℕ) (mode : StartMode) (x : List ℕ) (kind : ℕ) (bound : List ℕ) (s : Scan) : Type 0 where
+pub record Begun (image : List ℕ) (mode : StartMode) (x : List ℕ) (kind : ℕ) (bound : List ℕ) (s : Held) : Type 0 where
   pub steps : ℕ
   pub pre : List ℕ
   pub to : Row

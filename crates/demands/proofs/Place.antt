@@ -6,7 +6,7 @@ use Rattle.std.specs.Prelude.{◌≡◌, ◌+◌, ◌*◌, ◌≤◌, ◌<◌, O
 use Rattle.base.specs.Kit.{refl, ◌∙◌, subst, List, [], true, false, ℕ, zero, suc, arith, length, replicate, length-replicate}
 use Rattle.key.specs.Ikey.{ikey_of}
 use Rattle.key.specs.Part.{padded}
-use Rattle.demands.specs.Types.{Ordering, ScanState, ScanStateRetry as Retry, Above}
+use Rattle.demands.specs.Types.{Held, Ordering, ScanState, ScanStateRetry as Retry, Above}
 use Rattle.key.proofs.Order.{Cmp, is_lt, is_eq, is_gt, cmp}
 use Rattle.key.proofs.Bytes.{Bytes}
 use Rattle.key.proofs.Ikey.{rank, padded-length}
@@ -19,7 +19,6 @@ use Rattle.layering.proofs.Walk.{bottom}
 use Rattle.layering.proofs.Descent.{Past, here, over_val, over-sub, past_trans, past_weight, past-sieve, NextHop}
 use Rattle.layering.proofs.Depths.{Known, known_behind, known_past}
 use Rattle.walk.specs.Walk.{empty_context}
-use Rattle.scan.specs.Machine.{Scan}
 use Rattle.demands.proofs.Leaf.{used_in, rank_at, LeafOk}
 use Rattle.demands.proofs.Search.{Stands}
 use Rattle.demands.proofs.Moves.{dup_at, dup_no, dup_yes}
@@ -35,7 +34,7 @@ next_ready x (val k b v r) h = tt
 next_ready x (sub k q s r) h = tt
 
 -- The first scan of a walk with cursor x.
-unfoldable pub opening : List ℕ → List ℕ → ScanState → ℕ → Scan
+unfoldable pub opening : List ℕ → List ℕ → ScanState → ℕ → Held
 opening image x state last = record {
   ctx = record {
     root = root_offset image;
@@ -115,7 +114,7 @@ module _ (image : List ℕ) where
       (λ j g k. b j (omega arith) (omega arith)))
 
   -- A walk that has come to its first place s: what it finds there on, of the row r, is what lies past the start.
-  pub record Placed (x : List ℕ) (s : Scan) (r : Row) : Type 0 where
+  pub record Placed (x : List ℕ) (s : Held) (r : Row) : Type 0 where
     pub to : Row
     pub stands : Standing image s [] bottom to
     pub left : sieve (past Above x) (keys [] r) ≡ keys [] to
@@ -125,7 +124,7 @@ module _ (image : List ℕ) where
   module _ (x : List ℕ) (short : length x ≤ 8) (bx : Bytes x) (l i : ℕ) (ok : LeafOk image l)
       (within : i ≤ used_in image l) (r : Row) (m : ℕ) (asc : Asc m r) where
     -- where its Retry comes to
-    abbrev pub begun : Scan
+    abbrev pub begun : Held
     begun = arrived (opening image x Retry 0) l i true
 
     finds-begun : (to : Row) (low : ℕ) → At image 0 l i to → Asc low to → NextHop (ikey_of x) to → Finds image begun [] to bottom

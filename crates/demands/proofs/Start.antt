@@ -12,7 +12,7 @@ use Rattle.key.proofs.Order.{cmp_prefix}
 use Rattle.key.proofs.Bytes.{Bytes, bytes_take, bytes_drop}
 use Rattle.key.proofs.Ikey.{rank, be-take, ikey_bytes-length, ikey_bytes-ikey_of}
 use Rattle.node.specs.Layout.{value_at}
-use Rattle.demands.specs.Types.{Slot, CursorPlace, StartMode, Above, From, Verdict, Started, StartedAt, StartedEnter, ScanState, ScanStateStart as Start, Continue, Decline}
+use Rattle.demands.specs.Types.{Held, Slot, CursorPlace, StartMode, Above, From, Verdict, Started, StartedAt, StartedEnter, ScanState, ScanStateStart as Start, Continue, Decline}
 use Rattle.cursor.specs.CursorKey.{shift, suffix_of, store_ikey}
 use Rattle.layering.specs.Tree.{Node, Slots, none, value, layer, fields_at}
 use Rattle.layering.specs.Keys.{Pair, own_bytes}
@@ -28,7 +28,7 @@ use Rattle.search.specs.Traversal.{reach}
 use Rattle.search.specs.Helper.{position, slot_in}
 use Rattle.start.specs.Start.{verdict, by_verdict, start_from, start_position}
 use Rattle.moves.specs.Moves.{stand_at, standing, kept, taken_on, begin, start_in, find_start, pass_in}
-use Rattle.scan.specs.Machine.{Scan, pushing, entered, passed_by, before, move_in, move}
+use Rattle.scan.specs.Machine.{pushing, entered, passed_by, before, move_in, move}
 use Rattle.demands.proofs.Leaf.{used_in, ikey_in, LeafOk, past_slot}
 use Rattle.demands.proofs.Moves.{dup_off}
 use Rattle.demands.proofs.Relation.{IsSub, At, Core, Standing, plain, Nexts}
@@ -323,7 +323,7 @@ eight-bytes y b h =
 
 module _ (image : List ℕ) (mode : StartMode) (X z : List ℕ) (wide : Wide mode (length X)) where
   -- THE START OF A LAYER whose root the walk has: p of the cursor is behind it, y is left.
-  pub record Starting (s : Scan) (p y : List ℕ) (st : Stack) (n : Node) : Type 0 where
+  pub record Starting (s : Held) (p y : List ℕ) (st : Stack) (n : Node) : Type 0 where
     pub state : s.ctx.state ≡ Start mode
     pub core : Core image s p st
     pub whole : X ≡ p ++ y
@@ -339,7 +339,7 @@ module _ (image : List ℕ) (mode : StartMode) (X z : List ℕ) (wide : Wide mod
     pub asc : Asc low (flat_n n stop)
 
   -- The walk in the layer whose root is q, entered from the leaf at l.
-  unfoldable pub entering : Scan → ℕ → ℕ → Scan
+  unfoldable pub entering : Held → ℕ → ℕ → Held
   entering s l q = record {
     ctx = stand_at (entered q s.ctx) l s.ctx.position (shift s.ctx.cursor s.buf) (Start mode) s.ctx.dup s.ctx.last;
     buf = store_ikey s.buf s.ctx.cursor.offset s.ctx.cursor.ikey;
@@ -348,14 +348,14 @@ module _ (image : List ℕ) (mode : StartMode) (X z : List ℕ) (wide : Wide mod
 
   module _ (kind : ℕ) (bound : List ℕ) where
     -- one Start move
-    starts : (s : Scan) (l i : ℕ) → s.ctx.state ≡ Start mode
+    starts : (s : Held) (l i : ℕ) → s.ctx.state ≡ Start mode
         → reach image s.ctx.cursor.ikey s.ctx.root ≡ Ok l
         → start_position mode image l s.ctx.cursor s.buf ≡ Ok (StartedAt (position i))
         → move image kind bound s ≡ record { outcome = Ok Continue; scan = arrived s l i s.ctx.dup }
     unfolding move move_in before pass_in passed_by pushing pick find_start start_in taken_on begin kept standing arrived
     starts s l i e h g = ap (λ (z : ScanState). move_in z image kind bound s) e ∙ rw (h, g)
 
-    enters : (s : Scan) (l : ℕ) (t : Slot) → s.ctx.state ≡ Start mode
+    enters : (s : Held) (l : ℕ) (t : Slot) → s.ctx.state ≡ Start mode
         → reach image s.ctx.cursor.ikey s.ctx.root ≡ Ok l
         → start_position mode image l s.ctx.cursor s.buf ≡ Ok (StartedEnter t)
         → move image kind bound s ≡ record { outcome = Ok Continue; scan = entering s l (value_at image l t) }
@@ -364,7 +364,7 @@ module _ (image : List ℕ) (mode : StartMode) (X z : List ℕ) (wide : Wide mod
 
     -- WHERE THE START MOVES COME TO from s, in a layer whose row is `row`: `steps` of them enter a layer, and the last
     -- stands in the row `to`, with `over` waiting above it.
-    pub record BegunIn (s : Scan) (p : List ℕ) (st : Stack) (row : Row) : Type 0 where
+    pub record BegunIn (s : Held) (p : List ℕ) (st : Stack) (row : Row) : Type 0 where
       pub steps : ℕ
       pub pre : List ℕ
       pub to : Row
@@ -374,7 +374,7 @@ module _ (image : List ℕ) (mode : StartMode) (X z : List ℕ) (wide : Wide mod
       pub known : (t : List ℕ → ℕ) → Known t p row → KnownAbove t st → KnownAt t (seek steps pre to over)
       pub light : steps + weight to + climb over ≤ weight row + climb st
 
-    module _ (s : Scan) (p y : List ℕ) (st : Stack) (n : Node) (g : Starting s p y st n) where
+    module _ (s : Held) (p y : List ℕ) (st : Stack) (n : Node) (g : Starting s p y st n) where
       x : ℕ
       x = ikey_of y
 
@@ -456,7 +456,7 @@ module _ (image : List ℕ) (mode : StartMode) (X z : List ℕ) (wide : Wide mod
       -- or enters a layer, and is at its start
       module _ (j : ℕ) (f : Entered mode X p y g.whole g.bytes image s.ctx.depth leaf-at (route_n x n stop).1 j)
         where
-          inside : Scan
+          inside : Held
           inside = entering s leaf-at f.q
 
           bytes-own : ikey_bytes s.ctx.cursor.ikey ≡ take 8 y
@@ -515,7 +515,7 @@ module _ (image : List ℕ) (mode : StartMode) (X z : List ℕ) (wide : Wide mod
           }
 
       -- ONE LAYER
-      one-layer : ((t : Scan) (p' : List ℕ) (st' : Stack) (n' : Node) → 8 < length y → Starting t p' (drop 8 y) st' n'
+      one-layer : ((t : Held) (p' : List ℕ) (st' : Stack) (n' : Node) → 8 < length y → Starting t p' (drop 8 y) st' n'
           → BegunIn t p' st' (flat_n n' stop)) → BegunIn s p st (flat_n n stop)
       one-layer ih = go refl found
         where
@@ -527,7 +527,7 @@ module _ (image : List ℕ) (mode : StartMode) (X z : List ℕ) (wide : Wide mod
               went_in j f e (ih (inside j f) (p ++ f.k) (frame p f.behind st) f.node f.long (starting j f))
 
     -- ALL START MOVES: each layer entered takes eight bytes of the cursor.
-    pub begins_all : (f : ℕ) (s : Scan) (p y : List ℕ) (st : Stack) (n : Node) → Starting s p y st n
+    pub begins_all : (f : ℕ) (s : Held) (p y : List ℕ) (st : Stack) (n : Node) → Starting s p y st n
         → length y ≤ 8 * f + 8 → BegunIn s p st (flat_n n stop)
     begins_all zero s p y st n g h = one-layer s p y st n g (λ t p' st' n' w r. absurd (omega arith))
     begins_all (suc f) s p y st n g h =

@@ -5,7 +5,7 @@ use Rattle.std.specs.Prelude.{◌≡◌, ◌∷◌, ◌+◌, ◌≤◌, None, Ok
 use Rattle.base.specs.Kit.{refl, ap, ap₂, sym, ◌∙◌, subst, List, [], Bool, true, false, not, inl, inr, ℕ, arith, length, take, eq-eqb, ne_eqb}
 use Rattle.base.specs.Pick.{pick}
 use Rattle.cursor.specs.RangeBound.{contains}
-use Rattle.demands.specs.Types.{RangeBound, WalkStateFindNext as FindNext, Ended, HandedOut, Walk, WalkRange, Stepped}
+use Rattle.demands.specs.Types.{Held, RangeBound, WalkStateFindNext as FindNext, Ended, HandedOut, Walk, WalkRange, Stepped}
 use Rattle.layering.specs.Keys.{Pair}
 use Rattle.layering.specs.Depths.{depth_of}
 use Rattle.layering.specs.Ascending.{Ascending}
@@ -15,7 +15,7 @@ use Rattle.layering.proofs.Walk.{Conf, over, rest, KnownAt, left, pot}
 use Rattle.moves.specs.CodeMoves.{InRange}
 use Rattle.walk.specs.Walk.{number_of, keys_of, len_of, value_of, nothing_yet, one_more, in_range, walk_ok}
 use Rattle.walk.proofs.NumberLaws.{fits-walk}
-use Rattle.scan.specs.Machine.{Scan, Ran, run, is_ended, ctx_of, scan_of, walk_of, declined_with, answered, finished, advance, step}
+use Rattle.scan.specs.Machine.{Ran, run, is_ended, ctx_of, scan_of, walk_of, declined_with, answered, finished, advance, step}
 use Rattle.scan.specs.CodeLoop.{run_by, all_by, keys_ahead, keys_left}
 use Rattle.lent.proofs.Same.{step_as_lem}
 use Rattle.demands.specs.Demand.{Call, steps, Lent, Said, hands_out, declines, said_by, said, moves_of, own, head_said, tail_of, due, Foreign}
@@ -79,7 +79,7 @@ module _ (image : List ℕ) (B : RangeBound) where
         })
 
     -- the walk after a run, with h handed out: it goes on behind a key, or is ended
-    module _ (w : Walk) (s : Scan) (h : HandedOut) (a : w.image_len ≡ length image) (b : w.bound ≡ B) (fit : InRange s.ctx.depth s.ctx) (deep : h.depth ≤ 31) where
+    module _ (w : Walk) (s : Held) (h : HandedOut) (a : w.image_len ≡ length image) (b : w.bound ≡ B) (fit : InRange s.ctx.depth s.ctx) (deep : h.depth ≤ 31) where
       pub goes_on_lem : (c : Conf) → Rep image B.kind (take B.len B.key) (resumed s) c → Ascending (left (admitted B) c) → KnownAt (depth_of image) c
           → h.count + length (left (admitted B) c) ≤ length image → Walks (walk_of w FindNext h s) c
       unfolding scan_of resumed

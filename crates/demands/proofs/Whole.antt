@@ -31,7 +31,7 @@ use Rattle.layering.proofs.Bound.{contains-closed}
 use Rattle.layering.proofs.Walk.{Conf, seek, rest, left, pot}
 use Rattle.base.specs.Decline.{and_then}
 use Rattle.walk.specs.Walk.{nothing_yet}
-use Rattle.walk.proofs.PlaceLaws.{placed-fits}
+use Rattle.walk.proofs.PlaceLaws.{placed_fits}
 use Rattle.walk.specs.Placing.{short_state, start_state, placing, fresh_walk, placed_by, place}
 use Rattle.scan.specs.Machine.{is_ended, scan_of}
 use Rattle.scan.specs.CodeLoop.{keys_left}
@@ -54,7 +54,7 @@ module _ (image : List ℕ) (mode : StartMode) (cursor : List ℕ) (kind : ℕ) 
     where
       go : (r : Result Unit Decline) → placing image cursor kind bound ≡ r → (placed_by r (fresh_walk image mode cursor kind bound)).declined ≡ None
           → ((placed_by r (fresh_walk image mode cursor kind bound)).walk ≡ fresh_walk image mode cursor kind bound) × Limits cursor kind bound
-      go (Ok seen) e n = let f = placed-fits image cursor kind bound e in (refl, record { cursor-fits = f.1; kinds = f.2; fits = f.3 })
+      go (Ok seen) e n = let f = placed_fits image cursor kind bound e in (refl, record { cursor-fits = f.1; kinds = f.2; fits = f.3 })
       go (Err d) e n = cc
 
 -- an accepted image has no fault in its heading, so that a placing within the limits is taken

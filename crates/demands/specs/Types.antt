@@ -32,5 +32,6 @@ pub use Rattle.start.specs.declared.Started.{Started}
 pub use Rattle.start.specs.declared.Started.TheVariants.{At as StartedAt, Enter as StartedEnter}
 pub use Rattle.start.specs.declared.Verdict.{Verdict}
 pub use Rattle.start.specs.declared.Verdict.TheVariants.{Pass as VerdictPass, Stand, Enter as VerdictEnter}
-pub use Rattle.search.specs.declared.traversal.RecordKind.TheVariants.{Leaf as RecordKindLeaf, Internode}
+pub use Rattle.node.specs.declared.nodeversion.RecordKind.TheVariants.{Leaf as RecordKindLeaf, Internode}
 pub use Rattle.verify.specs.declared.Counts.{Counts}
+pub use Rattle.scan.specs.declared.scan_ctx.Held.{Held}

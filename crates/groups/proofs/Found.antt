@@ -131,9 +131,9 @@ module _ (s : List ℕ) (below line left k : ℕ) where
     pub longs : lines_at s (31 - below) g.long_line g.longs ++ longs_left g.longs (run k (ahead g)) ≡ longs_of all
     pub rest : behind_run k (ahead g) ≡ behind_run k (lines_at s (31 - below) line left)
 
-  pub so_far-none : Fit s below line left → SoFar (record { shorts = 0; longs = 0; long_line = line; behind = line })
+  pub so_far_none : Fit s below line left → SoFar (record { shorts = 0; longs = 0; long_line = line; behind = line })
   unfolding lines_at lowered pairs_in shorts_left longs_left pick
-  so_far-none F =
+  so_far_none F =
       let e : left - 0 ≡ left = omega arith in
       record {
         front = empty_block s line F.lines.inside;
@@ -209,9 +209,9 @@ module _ (s : List ℕ) (below line left k : ℕ) where
         (λ v. rw (t, v) (long_turn (λ z. leb-false r.len 8 v))))
         (λ f. rw f (long_turn (λ z. absurd (eqb-false g.longs 0 f z))))
 
-  pub so_far-next : (g : Group) (r : Lowered) → LoweredRead s (31 - below) g.behind r → r.ikey ≡ k → g.shorts + g.longs < left → SoFar g
+  pub so_far_next : (g : Group) (r : Lowered) → LoweredRead s (31 - below) g.behind r → r.ikey ≡ k → g.shorts + g.longs < left → SoFar g
       → SoFar (grown g r.len r.next)
-  so_far-next g r R same more G = so_far_more g (left - (g.shorts + g.longs) - 1) (omega arith) r R same G
+  so_far_next g r R same more G = so_far_more g (left - (g.shorts + g.longs) - 1) (omega arith) r R same G
 
   -- no line more
   so_far_end : (g : Group) (x : Pair) (l : List Pair) → SoFar g → lines_at s (31 - below) line left ≡ x ∷ l → ikey_of x.key ≡ k
@@ -254,9 +254,9 @@ module _ (s : List ℕ) (below line left : ℕ) (some : 0 < left) (f : Lowered) 
       so_far_end s below line left f.ikey g (here s (31 - below) line f) (lines_at s (31 - below) f.next (left - 1)) G
       (ap (lines_at s (31 - below) line) e ∙ lines-first s (31 - below) line f R (left - 1)) (sym R.ikey) h
 
-  pub group-whole : left ≤ g.shorts + g.longs → GroupRead s (31 - below) line left g
+  pub group_whole : left ≤ g.shorts + g.longs → GroupRead s (31 - below) line left g
   unfolding lines_at lowered pairs_in run behind_run
-  group-whole h = let e : left - (g.shorts + g.longs) ≡ 0 = omega arith in ended (rw e (refl, refl))
+  group_whole h = let e : left - (g.shorts + g.longs) ≡ 0 = omega arith in ended (rw e (refl, refl))
 
   pub group_cut : (r : Lowered) → LoweredRead s (31 - below) g.behind r → g.shorts + g.longs < left → (r.ikey ≡ f.ikey → ⊥)
       → GroupRead s (31 - below) line left g
@@ -266,9 +266,9 @@ module _ (s : List ℕ) (below line left : ℕ) (some : 0 < left) (f : Lowered) 
       ended (rw (e, lines-first s (31 - below) g.behind r Q m)
       (run_end f.ikey (here s (31 - below) g.behind r) (lines_at s (31 - below) r.next m) (λ z. d (Q.ikey ∙ z))))
 
-pub grown-one : (g : Group) (len next : ℕ) → (grown g len next).shorts + (grown g len next).longs ≡ g.shorts + g.longs + 1
+pub grown_one : (g : Group) (len next : ℕ) → (grown g len next).shorts + (grown g len next).longs ≡ g.shorts + g.longs + 1
 unfolding grown pick
-grown-one g len next =
+grown_one g len next =
     by_test (eqb g.longs 0)
     (λ t. by_test (leb len 8) (λ u. rw (t, u) (omega (arith, eqb-true g.longs 0 t))) (λ v. rw (t, v) (omega arith)))
     (λ f. rw f (omega arith))

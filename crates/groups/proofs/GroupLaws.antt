@@ -1,7 +1,7 @@
 -- THE FIRST GROUP of what a layer is given: its slots, which are those of its shorts and then those of its longs; the groups behind it; and
 -- what the layer of its longs is given.
 use Rattle.std.specs.Prelude.{◌≡◌, ◌∷◌, ◌++◌, ◌+◌, ◌*◌, ◌-◌, ◌≤◌, ◌<◌}
-use Rattle.base.specs.Kit.{refl, sym, ap, ap₂, subst, ◌∙◌, Bool, true, false, List, [], map, ℕ, zero, suc, min, arith, leb, eqb, leb-true, leb-false, eqb-true, length, length-append, take, drop, drop-drop}
+use Rattle.base.specs.Kit.{refl, sym, ap, ap₂, subst, ◌∙◌, Bool, true, false, List, [], map, ℕ, suc, min, arith, leb, eqb, leb-true, leb-false, eqb-true, length, take, drop, drop-drop}
 use Rattle.base.specs.Pick.{pick}
 use Rattle.key.specs.Ikey.{ikey_of}
 use Rattle.key.proofs.Bytes.{Bytes}
@@ -14,7 +14,7 @@ use Rattle.building.specs.Shape.{ends_here, below, long_slots, group_slots, grou
 use Rattle.building.specs.CodeOrder.{run, behind_run}
 use Rattle.building.specs.CodeGood.{Good}
 use Rattle.building.proofs.Runs.{groups-run}
-use Rattle.building.proofs.Fill.{Each, Few, join_size}
+use Rattle.building.proofs.Fill.{join_size}
 use Rattle.building.proofs.Groups.{all_split, ascending_split, Of, Long, longs as longs-behind, below_ascending, good-below, group-few as few-slots}
 use Rattle.groups.specs.declared.Group.{Group}
 use Rattle.groups.specs.CodeGroups.{lower, lowered, lines_at, group_of, behind_group, shorts_of, longs_of, short_slots, Fit, LongsFit, slots_at, GroupRead}
@@ -156,23 +156,6 @@ module _ (m depth : ℕ) where
   pub longs-long : (g : List Pair) → GroupFit m depth g → (p : List ℕ) × All (Long p) (longs_of g)
   longs-long g G = from-long (longs_of g) (first-long g) (longs-fit g G)
 
-  -- every group of an ascending list, which has at most f pairs
-  groups-few : (sub : List Pair → Node) (f : ℕ) (ps : List Pair) → length ps ≤ f → Ascending ps → All (Good (suc m) depth) ps
-      → Each Few (map (group_slots sub) (groups ps))
-  unfolding groups group_of behind_group
-  groups-few sub zero [] h a g = tt
-  groups-few sub zero (x ∷ l) h a g = absurd (omega arith)
-  groups-few sub (suc f) [] h a g = tt
-  groups-few sub (suc f) (x ∷ l) h a g =
-      let s = group_split (x ∷ l) in
-      let r : List Pair = behind_group (x ∷ l) in
-      let n : length r ≤ f = omega (arith, ap length s, length-append (group_of (x ∷ l)) r) in
-      rw (groups-run x l) (
-        group-few sub (group_of (x ∷ l)) (group-fit (x ∷ l) a g),
-        groups-few sub f r n (ascending_split (group_of (x ∷ l)) r (subst Ascending (sym s) a)).1
-            (all_split (Good (suc m) depth) (group_of (x ∷ l)) r (subst (All (Good (suc m) depth)) (sym s) g)).1,
-      )
-
 -- THE LAYER BELOW: a further eight bytes less
 lowered-below : (d : ℕ) (l : List Pair) → map (lower (d + 1)) l ≡ map below (map (lower d) l)
 unfolding below
@@ -190,11 +173,6 @@ lines-below s d line n = lowered-below d (pairs_in n (drop line s))
 module _ (s : List ℕ) (m line left : ℕ) (F : Fit s m line left) where
   pub fit_group : GroupFit m (31 - m) (group_of (lines_at s (31 - m) line left))
   fit_group = group-fit m (31 - m) (lines_at s (31 - m) line left) F.ascend F.good
-
-  pub fit-few : Each Few (slots_at s m line left)
-  unfolding slots_at
-  fit-few =
-      groups-few m (31 - m) (layer_of m) (length (lines_at s (31 - m) line left)) (lines_at s (31 - m) line left) (omega arith) F.ascend F.good
 
   layers-left : (l : List Pair) → 0 < length l → (p : List ℕ) → All (Long p) l → All (Good (suc m) (31 - m)) l → 0 < m
   layers-left [] h p a b = absurd (omega arith)

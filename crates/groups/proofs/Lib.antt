@@ -3,4 +3,5 @@ pub mod LineRead
 pub mod Found
 pub mod GroupLaws
 pub mod SizeLaws
+pub mod Firsts
 pub mod TopLayer

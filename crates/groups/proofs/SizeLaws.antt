@@ -45,13 +45,13 @@ internodes-more zero h = absurd (omega arith)
 internodes-more (suc n) h =
     rw (lt-leb (suc n) 1 h) (ap (λ (m : ℕ). (suc n + 15) / 16 + m) (internodes_enough n ((suc n + 15) / 16) ((suc n + 15) / 16) (omega arith) (omega arith)))
 
-pub level-more : (n m : ℕ) → 1 < n → m ≡ n / 16 + min 1 (n % 16) → internodes n n ≡ m + internodes m m
-level-more n m h e = let q : m ≡ (n + 15) / 16 = omega arith in rw q (internodes-more n h)
+pub level_more : (n m : ℕ) → 1 < n → m ≡ n / 16 + min 1 (n % 16) → internodes n n ≡ m + internodes m m
+level_more n m h e = let q : m ≡ (n + 15) / 16 = omega arith in rw q (internodes-more n h)
 
-pub internodes-none : (n : ℕ) → n ≤ 1 → internodes n n ≡ 0
+pub internodes_none : (n : ℕ) → n ≤ 1 → internodes n n ≡ 0
 unfolding internodes pick
-internodes-none zero h = refl
-internodes-none (suc n) h = rw (le-leb (suc n) 1 h)
+internodes_none zero h = refl
+internodes_none (suc n) h = rw (le-leb (suc n) 1 h)
 
 -- A TALLY of groups gs of which hs are left.
 pub record Tallied (gs hs : List Slots) (t : Tally) : Type 0 where

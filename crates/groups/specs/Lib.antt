@@ -1,2 +1,4 @@
 pub mod CodeGroups
+pub mod Once
+pub mod CodeLines
 pub mod CodeSize

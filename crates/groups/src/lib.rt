@@ -1,7 +1,8 @@
 // From the station lines of a sheet to the groups of one ikey in a layer, and the size of a layer. Nothing is stored: a layer is some
 // lines of the sheet and the number of layers below it, 31 at the top.
 //
-// Interface: `lowered_at`, `group_at` and `layer_size`.
+// Interface: `lowered_at`; `LayerLines`, with its `first_group`; `FirstGroup`, with its `rest` and its `layer_below`;
+// `Group::slots`; and `layer_size`.
 #![tactic(auto)]
 
 ghost use Rattle.std.specs.Prelude.{◌≡◌, ◌+◌, ◌*◌, ◌-◌, ◌≤◌, ◌<◌};
@@ -9,7 +10,8 @@ ghost use Rattle.base.specs.Kit.{suc, min};
 ghost use Rattle.layering.specs.Accepted.{end_n, end_s};
 ghost use Rattle.building.specs.Shape.{long_slots, layer_of};
 ghost use Rattle.building.proofs.Sizes.{internodes};
-ghost use Rattle.groups.specs.CodeGroups.{OneLine, LoweredRead, lines_at, Fit, LongsFit, GroupRead, grown};
+ghost use Rattle.groups.specs.CodeGroups.{OneLine, LoweredRead, lines_at, Fit, GroupRead, grown};
+ghost use Rattle.groups.specs.Once.{Fit-prop, GroupRead-prop};
 ghost use Rattle.groups.specs.CodeSize.{capped, counted};
 
 use key::{ikey_of, part_of};
@@ -25,7 +27,7 @@ pub struct Lowered {
 }
 
 // The pairs of one ikey: how many keys end in the layer, how many go on below it, the first line of those that go on, and the line
-// behind the group.
+// behind the group. `long_line` is read behind a test of `longs` alone, and while there is none moves with `behind`.
 #[derive(Clone, Copy)]
 pub struct Group {
     pub shorts: usize,
@@ -42,6 +44,25 @@ impl Group {
     {
         self.shorts + self.longs.min(1)
     }
+}
+
+// Some station lines of a sheet, `left` from `line` on, as a layer with `below` layers below it has them: their keys ascend, and fit it.
+// (Lines are places in the sheet and no slices of it: a layer below begins in the midst of a group, and goes over its lines again.)
+#[derive(Clone, Copy)]
+pub struct LayerLines<'a> {
+    pub sheet: &'a [u8],
+    pub below: usize,
+    pub line: usize,
+    pub left: usize,
+    pub ghost fit: { Fit sheet.now below line left } by { Fit-prop sheet.now below line left },
+}
+
+// The group that the lines of a layer begin with.
+#[derive(Clone, Copy)]
+pub struct FirstGroup<'a> {
+    pub lines: LayerLines<'a>,
+    pub group: Group,
+    pub ghost read: { GroupRead lines.sheet.now (31 - lines.below) lines.line lines.left group } by { GroupRead-prop lines.sheet.now (31 - lines.below) lines.line lines.left group },
 }
 
 // The station line at a place of a sheet, as a layer at a depth has it.
@@ -62,22 +83,72 @@ pub fn lowered_at(sheet: &[u8], line: usize, depth: usize) -> Lowered
     }
 }
 
-// The group that a line begins, among the `left` lines from there on of a layer that has `below` layers below it.
-pub fn group_at(sheet: &[u8], line: usize, left: usize, below: usize) -> Group
-    requires fit { Fit sheet.now below line left }
-    requires left_nonzero { 0 < left }
-    ensures { GroupRead sheet.now (31 - below) line left result }
+impl<'a> LayerLines<'a> {
+    /// The group that the first line begins.
+    pub fn first_group(self) -> FirstGroup<'a>
+        requires { 0 < self.left }
+        ensures { result.lines ≡ self.entry }
+    {
+        FirstGroup {
+            lines: self,
+            group: group_of(self),
+        }
+    }
+}
+
+impl<'a> FirstGroup<'a> {
+    /// The lines behind the group.
+    pub fn rest(self) -> LayerLines<'a>
+        ensures { (result.sheet ≡ self.entry.lines.sheet)
+            × (result.below ≡ self.entry.lines.below)
+            × (result.line ≡ self.entry.group.behind)
+            × (result.left ≡ self.entry.lines.left - (self.entry.group.shorts + self.entry.group.longs)) }
+    {
+        let lines = self.lines;
+        LayerLines {
+            sheet: lines.sheet,
+            below: lines.below,
+            line: self.group.behind,
+            left: lines.left - (self.group.shorts + self.group.longs),
+        }
+    }
+
+    /// The lines of the group's long keys, as the layer below has them.
+    #[tactic(auto, using(crate::proofs::Firsts::first_longs))]
+    pub fn layer_below(self) -> LayerLines<'a>
+        requires { 2 ≤ self.group.longs }
+        ensures { (result.sheet ≡ self.entry.lines.sheet)
+            × (result.below + 1 ≡ self.entry.lines.below)
+            × (result.line ≡ self.entry.group.long_line)
+            × (result.left ≡ self.entry.group.longs) }
+    {
+        let lines = self.lines;
+        LayerLines {
+            sheet: lines.sheet,
+            below: lines.below - 1,
+            line: self.group.long_line,
+            left: self.group.longs,
+        }
+    }
+}
+
+// The group that the first line of a layer's lines begins. (`31 - below`, here and below, is no method: its result is not seen through in the
+// loop, and the proof did not close.)
+#[tactic(auto, using(crate::proofs::Lines::fit_line, crate::proofs::Found::group_whole))]
+fn group_of(lines: LayerLines) -> Group
+    requires { 0 < lines.left }
+    ensures { GroupRead lines.entry.sheet.now (31 - lines.entry.below) lines.entry.line lines.entry.left result }
 {
-    let depth = 31 - below;
-    let first = lowered_at(sheet, line, depth);
+    let depth = 31 - lines.below;
+    let first = lowered_at(lines.sheet, lines.line, depth);
     let mut g = Group {
         shorts: 0,
         longs: 0,
-        long_line: line,
-        behind: line,
+        long_line: lines.line,
+        behind: lines.line,
     };
-    for _ in 0..left {
-        let r = lowered_at(sheet, g.behind, depth);
+    for _ in 0..lines.left {
+        let r = lowered_at(lines.sheet, g.behind, depth);
         if r.ikey != first.ikey {
             break;
         }
@@ -87,6 +158,7 @@ pub fn group_at(sheet: &[u8], line: usize, left: usize, below: usize) -> Group
 }
 
 // A group so far with one more line, whose key has `len` bytes.
+#[tactic(auto, unfolding(crate::specs::CodeGroups::grown, base::specs::Pick::pick), using(std::proofs::lemmas::Bool::Decides::nat_tests))]
 fn grown(g: Group, len: usize, next: usize) -> Group
     requires { g.shorts + g.longs < 18446744073709551615 }
     ensures { result ≡ grown g len next }
@@ -108,6 +180,7 @@ fn grown(g: Group, len: usize, next: usize) -> Group
 
 // How far the size of a layer is counted: its leaves, the room in the last of them, and the bytes of all of them with their suffixes
 // and the layers below.
+// No ghost fields for the bounds of its numbers: the definition of `counted` makes tallies too, and would have to prove them there.
 #[derive(Clone, Copy)]
 pub struct Tally {
     pub leaves: usize,
@@ -117,51 +190,49 @@ pub struct Tally {
 
 // The bytes of a layer, counted no further than one past the longest image.
 #[cycle(layer_size_longs_size)]
-pub fn layer_size(sheet: &[u8], below: usize, line: usize, left: usize) -> usize
-    requires { Fit sheet.now below line left }
-    ensures { result ≡ capped (end_n 0 (layer_of (suc below) (lines_at sheet.now (31 - below) line left))) }
+pub fn layer_size(lines: LayerLines) -> usize
+    ensures { result ≡ capped (end_n 0 (layer_of (suc lines.entry.below) (lines_at lines.entry.sheet.now (31 - lines.entry.below) lines.entry.line lines.entry.left))) }
 {
     let mut t = Tally {
         leaves: 1,
         room: 15,
         bytes: 400,
     };
-    let mut at = line;
-    let mut rest = left;
-    while 0 < rest {
-        let g = group_at(sheet, at, rest, below);
-        let bytes = longs_size(sheet, below, g.long_line, g.longs);
-        t = counted(t, g.slots(), bytes);
-        at = g.behind;
-        rest -= g.shorts + g.longs;
+    let mut rest = lines;
+    // No iterator over groups: it would hold `rest` alone, and turn by just these lines.
+    while 0 < rest.left {
+        let first = rest.first_group();
+        t = counted(t, first, longs_size(first));
+        rest = first.rest();
     }
     with_internodes(t)
 }
 
-// The bytes of the n long keys of one ikey: a suffix, or a layer below, or nothing.
+// The bytes of a group's long keys: a suffix, or a layer below, or nothing.
 #[cycle(layer_size_longs_size)]
-fn longs_size(sheet: &[u8], below: usize, line: usize, n: usize) -> usize
-    requires { LongsFit sheet.now below line n }
-    ensures { result ≡ capped (end_s 0 (long_slots (layer_of below) (lines_at sheet.now (31 - below) line n))) }
+fn longs_size(first: FirstGroup) -> usize
+    ensures { result ≡ capped (end_s 0 (long_slots (layer_of first.entry.lines.below) (lines_at first.entry.lines.sheet.now (31 - first.entry.lines.below) first.entry.group.long_line first.entry.group.longs))) }
 {
-    if n == 0 {
+    let g = first.group;
+    if g.longs == 0 {
         return 0;
     }
-    if n == 1 {
-        let r = lowered_at(sheet, line, 31 - below);
+    if g.longs == 1 {
+        let r = lowered_at(first.lines.sheet, g.long_line, 31 - first.lines.below);
         return (r.len - 8).next_multiple_of(8);
     }
-    layer_size(sheet, below - 1, line, n)
+    layer_size(first.layer_below())
 }
 
-// A tally with one more group.
-fn counted(t: Tally, n: usize, bytes: usize) -> Tally
+// A tally with one more group, whose long keys take so many bytes.
+#[tactic(auto, unfolding(crate::specs::CodeSize::counted, base::specs::Pick::pick), using(std::proofs::lemmas::Bool::Decides::nat_tests, crate::proofs::SizeLaws::capped_most, crate::proofs::Firsts::first_few))]
+fn counted(t: Tally, first: FirstGroup, bytes: usize) -> Tally
     requires leaves_bound { t.leaves ≤ 16777217 }
     requires bytes_bound { t.bytes ≤ 16777217 }
-    requires n_bound { n ≤ 15 }
-    requires bytes_bound_2 { bytes ≤ 16777217 }
-    ensures { result ≡ counted t n bytes }
+    requires group_bound { bytes ≤ 16777217 }
+    ensures { result ≡ counted t (first.entry.group.shorts + min 1 first.entry.group.longs) bytes }
 {
+    let n = first.group.slots();
     let bytes = add_capped(t.bytes, bytes);
     if n <= t.room {
         return Tally {
@@ -178,6 +249,7 @@ fn counted(t: Tally, n: usize, bytes: usize) -> Tally
 }
 
 // The bytes that a tally comes to with the internodes over its leaves.
+#[tactic(auto, unfolding(crate::specs::CodeSize::capped))]
 fn with_internodes(t: Tally) -> usize
     requires leaves_bound { t.leaves ≤ 16777217 }
     requires bytes_bound { t.bytes ≤ 16777217 }
@@ -187,6 +259,7 @@ fn with_internodes(t: Tally) -> usize
 }
 
 // The internodes over so many leaves: sixteen children to each, level by level.
+#[tactic(auto, using(crate::proofs::SizeLaws::level_more, crate::proofs::SizeLaws::internodes_none))]
 fn internodes_over(leaves: usize) -> usize
     requires { leaves ≤ 16777217 }
     ensures value { result ≡ internodes leaves leaves }
@@ -194,6 +267,7 @@ fn internodes_over(leaves: usize) -> usize
 {
     let mut n = leaves;
     let mut sum = 0;
+    // No range: how many levels there are shows only at the last.
     while 1 < n {
         n = n.div_ceil(16);
         sum += n;
@@ -202,6 +276,7 @@ fn internodes_over(leaves: usize) -> usize
 }
 
 // A sum, counted no further than one past the longest image.
+#[tactic(auto, unfolding(crate::specs::CodeSize::capped))]
 fn add_capped(a: usize, b: usize) -> usize
     requires { a + b < 18446744073709551616 }
     ensures { result ≡ capped (a + b) }

@@ -3,9 +3,11 @@
 //
 // Interface: every public function. Each asks that the output has room for what it writes. A leaf's and an internode's numbers are
 // collected in a record by value, `LeafSlots` and `Children`, and written at once.
+//
+// The output and a place in it stay two parameters: a struct of both would be made anew for each call, which has a place and a room of its own.
 #![tactic(auto)]
 
-ghost use Rattle.std.specs.Prelude.{◌∷◌, ◌++◌, ◌≡◌, ◌+◌, ◌*◌, ◌/◌, ◌≤◌, ◌<◌};
+ghost use Rattle.std.specs.Prelude.{◌∷◌, ◌++◌, ◌≡◌, ◌+◌, ◌-◌, ◌*◌, ◌/◌, ◌≤◌, ◌<◌};
 ghost use Rattle.base.specs.Kit.{List, [], ℕ, length, replicate};
 ghost use Rattle.base.specs.Pick.{pick};
 ghost use Rattle.layering.specs.Tree.{Fields};
@@ -38,20 +40,23 @@ pub struct Children {
     pub n: usize,
 }
 
-// A number of eight bytes into out from `at` on, the lowest first.
-pub fn put_u64(out: &mut [u8], at: usize, x: u64)
-    requires { at + 8 ≤ length out.old }
-    ensures { out.new ≡ put out.old at (le_bytes 8 x) }
+// The bytes of s into out from `at` on, and zeros behind them, n bytes in all.
+fn put_filled(out: &mut [u8], at: usize, s: &[u8], n: usize)
+    requires len_bound { length s.now ≤ n }
+    requires at_in_bounds { at + n ≤ length out.old }
+    ensures { out.new ≡ put out.old at (s.now ++ replicate (n - length s.now) 0) }
 {
-    copy_in(out, at, &x.to_le_bytes());
+    copy_in(out, at, s);
+    out[at + s.len()..at + n].fill(0);
 }
 
-// The four low bytes of a number, the same way.
-fn put_low_half(out: &mut [u8], at: usize, x: u64)
-    requires { at + 4 ≤ length out.old }
-    ensures { out.new ≡ put out.old at (le_bytes 4 x) }
+// The low n bytes of x into out from `at` on, the lowest first; a number has eight, and those past them are zero.
+pub fn put_le(out: &mut [u8], at: usize, n: usize, x: u64)
+    requires { at + n ≤ length out.old }
+    ensures { out.new ≡ put out.old at (le_bytes n x) }
 {
-    copy_in(out, at, &x.to_le_bytes()[..4]);
+    let bytes = x.to_le_bytes();
+    put_filled(out, at, &bytes[..n.min(8)], n);
 }
 
 // The numbers of a row as words of eight bytes into out from `at` on.
@@ -60,7 +65,7 @@ pub fn put_words(out: &mut [u8], at: usize, row: &[u64])
     ensures { out.new ≡ put out.old at (words 8 (length row.now) row.now) }
 {
     for (i, x) in row.iter().enumerate() {
-        put_u64(out, at + 8 * i, *x);
+        put_le(out, at + 8 * i, 8, *x);
     }
 }
 
@@ -69,11 +74,11 @@ fn put_lens(out: &mut [u8], at: usize, lens: &[u8; 15])
     requires { at + 16 ≤ length out.old }
     ensures { out.new ≡ put out.old at (words 1 15 lens.now ++ replicate 1 0) }
 {
-    copy_in(out, at, lens);
-    out[at + 15] = 0;
+    put_filled(out, at, lens, 16);
 }
 
 // No slots.
+#[tactic(auto, unfolding(crate::specs::CodeRows::slots_of, crate::specs::CodeRows::row_of, building::specs::Build::mask))]
 pub fn no_slots() -> LeafSlots
     ensures { result ≡ slots_of [] }
 {
@@ -89,6 +94,7 @@ pub fn no_slots() -> LeafSlots
 }
 
 // The live mask with one slot more.
+#[tactic(auto, unfolding(base::specs::Pick::pick))]
 fn mask_with(mask: u64, bit: u64, live: bool) -> u64
     requires { mask + bit < 65536 }
     ensures { result ≡ mask + pick live bit 0 }
@@ -125,9 +131,9 @@ fn put_leaf_head(out: &mut [u8], at: usize, mask: u64, n: usize)
     requires n_bound { n ≤ 15 }
     ensures { out.new ≡ put out.old at (le_bytes 4 2147483648 ++ le_bytes 4 mask ++ le_bytes 8 (17134975606245761280 + n)) }
 {
-    put_low_half(out, at, 2147483648);
-    put_low_half(out, at + 4, mask);
-    put_u64(out, at + 8, 17134975606245761280 + (n as u64));
+    put_le(out, at, 4, 2147483648);
+    put_le(out, at + 4, 4, mask);
+    put_le(out, at + 8, 8, 17134975606245761280 + (n as u64));
 }
 
 // A leaf with these slots and no leaf behind it, from `at` on.
@@ -142,10 +148,11 @@ pub fn put_leaf(out: &mut [u8], at: usize, s: LeafSlots)
     put_lens(out, at + 136, &s.lens);
     put_words(out, at + 152, &s.values);
     put_words(out, at + 272, &s.suffixes);
-    put_u64(out, at + 392, 0);
+    put_le(out, at + 392, 8, 0);
 }
 
 // One child and no separator.
+#[tactic(auto, unfolding(crate::specs::CodeRows::children_of, crate::specs::CodeRows::row_of))]
 pub fn first_child(node: u64) -> Children
     ensures { result ≡ children_of [] (node ∷ []) }
 {
@@ -175,19 +182,20 @@ pub fn put_internode(out: &mut [u8], at: usize, c: Children)
     requires { at + 256 ≤ length out.old }
     ensures { (xs cs : List ℕ) → c ≡ children_of xs cs → length xs ≤ 15 → out.new ≡ put out.old at (internode_row (length xs) xs cs) }
 {
-    put_low_half(out, at, 0);
-    put_low_half(out, at + 4, c.n as u64);
+    put_le(out, at, 4, 0);
+    put_le(out, at + 4, 4, c.n as u64);
     put_words(out, at + 8, &c.separators);
     put_words(out, at + 128, &c.nodes);
 }
 
-// The layer's previous leaf, where there is one, names this one.
+// The layer's previous leaf, where there is one, names this one; 0 is none, as a leaf's own `next` has it.
+#[tactic(auto, unfolding(building::specs::CodeWritten::linked, base::specs::Pick::pick), using(std::proofs::lemmas::Bool::Decides::nat_tests))]
 pub fn link(out: &mut [u8], prev: usize, leaf: usize)
     requires { prev + 400 ≤ length out.old }
     ensures { out.new ≡ linked prev leaf out.old }
 {
     if prev != 0 {
-        put_u64(out, prev + 392, leaf as u64);
+        put_le(out, prev + 392, 8, leaf as u64);
     }
 }
 
@@ -197,10 +205,9 @@ pub fn put_padded(out: &mut [u8], at: usize, s: &[u8]) -> usize
     ensures { (result ≡ at + (length s.now + 7) / 8 * 8)
         × (out.new ≡ put out.old at (whole_words s.now)) }
 {
-    let behind = at + s.len().next_multiple_of(8);
-    copy_in(out, at, s);
-    out[at + s.len()..behind].fill(0);
-    behind
+    let room = s.len().next_multiple_of(8);
+    put_filled(out, at, s, room);
+    at + room
 }
 
 // The trailer of an image whose records end at `at`.
@@ -208,8 +215,8 @@ pub fn put_trailer(out: &mut [u8], at: usize, root: u64, count: u64)
     requires { at + 32 ≤ length out.old }
     ensures { out.new ≡ put out.old at (trailer_bytes at root count) }
 {
-    put_u64(out, at, root);
-    put_u64(out, at + 8, count);
-    put_u64(out, at + 16, (at + 32) as u64);
-    put_u64(out, at + 24, 1);
+    put_le(out, at, 8, root);
+    put_le(out, at + 8, 8, count);
+    put_le(out, at + 16, 8, (at + 32) as u64);
+    put_le(out, at + 24, 8, 1);
 }

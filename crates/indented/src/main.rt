@@ -5,9 +5,12 @@
 
 use cursor::range_bound::StartMode;
 use key::first;
-use requests::{KeyText, Requests};
-use std::{fmt, io};
-use walk::scan_state::{KeyOut, Walk};
+use requests::{KeyText, Request, line};
+use std::fmt;
+use walk::scan_state::{HandedOut, KeyOut, Walk};
+
+// The requests: more than there are.
+const MOST: usize = 1000;
 
 // Two spaces for each layer.
 #[derive(Drop)]
@@ -23,49 +26,43 @@ impl fmt::Display for Indent {
 }
 
 // The keys of a walk, up to the first answer that is no key.
-fn keys(rt: &impl Print, start: Walk, image: &[u8]) -> io::Result<()> {
+fn keys(rt: &impl Print, start: Walk, image: &[u8]) {
     let mut walk = start;
     for _ in 0..image.len() {
         let step = scan::step::step(walk, image);
-        let handed = step.handed;
+        let HandedOut { depth, count } = step.handed;
         walk = step.walk;
-        match step.answer {
-            Ok(Some(KeyOut { len, value })) => println!(rt;
-                "{} {}{} {value}",
-                handed.count,
-                Indent(handed.depth),
-                KeyText(first(&walk.cursor.buf, len))
-            )?,
-            Ok(None) => {
-                return println!(rt; "end depth {} count {}", handed.depth, handed.count);
+        let _ = match step.answer {
+            Ok(Some(KeyOut { len, value })) => {
+                let key = KeyText(first(&walk.cursor.buf, len));
+                println!(rt; "{count} {}{key} {value}", Indent(depth))
             }
-            Err(decline) => return println!(rt; "declined {}", u8::from(decline)),
-        }
+            Ok(None) => return line(rt, b"", format_args!("end depth {depth} count {count}")),
+            Err(decline) => return line(rt, b"", format_args!("declined {decline}")),
+        };
     }
-    Ok(())
 }
 
-// An image's screen, or the check's number.
-fn screen(rt: &impl Print, image: &[u8]) -> io::Result<()> {
+// A request's name, and its image's screen or the check's number; of its form nothing is asked.
+fn answer(rt: &impl Print, request: &Request<u8>) {
+    let image = request.image;
+    line(rt, request.name, "");
     match verify::check_image(image) {
         Ok(_) => {
             let placed = walk::placing::place(image, StartMode::From, b"", 0, b"");
-            keys(rt, placed.walk, image)
+            keys(rt, placed.walk, image);
         }
-        Err(decline) => println!(rt; "refused {}", u8::from(decline)),
+        Err(decline) => line(rt, b"", format_args!("refused {decline}")),
     }
 }
 
-fn run(rt: &(impl Input + Print + AllocGlobal)) -> io::Result<()> {
-    for request in Requests::new(rt.alloc(), rt.reader()) {
-        let request = request?;
-        rt.println(&request.name)?;
-        screen(rt, &request.image)?;
-    }
-    Ok(())
-}
-
-// An output that fails is passed over.
 fn main(rt: HostRuntime) {
-    let _ = run(&rt);
+    let mut input = rt.reader();
+    let mut space = [0u8; requests::SPACE];
+    for _ in 0..MOST {
+        let Some(request) = requests::read(&mut input, &mut space) else {
+            return;
+        };
+        answer(&rt, &request);
+    }
 }

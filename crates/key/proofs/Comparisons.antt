@@ -1,6 +1,7 @@
 -- Laws of a comparison by pieces: what one piece decides, and what is left where it decides nothing.
-use Rattle.std.specs.Prelude.{◌≡◌, ◌∷◌, ◌++◌, ◌+◌, ◌-◌, ◌*◌, ◌/◌, ◌%◌, ◌≤◌, ◌<◌}
-use Rattle.base.specs.Kit.{refl, sym, ◌∙◌, ap, ap₂, List, [], ℕ, zero, suc, min, add-zero, zero-add, one-mul, sub-zero, append-nil, mul-zero, mul-suc, add-one, arith, length, get_or, take, drop, drop-cons, drop-drop, drop_of_length-le, length-drop, length-replicate, replicate, take_all}
+use Rattle.std.specs.Prelude.{◌⊎◌, ◌≡◌, ◌∷◌, ◌++◌, ◌+◌, ◌-◌, ◌*◌, ◌/◌, ◌%◌, ◌≤◌, ◌<◌}
+use Rattle.base.specs.Kit.{inl, inr, refl, sym, ◌∙◌, ap, ap₂, List, [], ℕ, zero, suc, min, add-zero, zero-add, one-mul, sub-zero, append-nil, mul-zero, mul-suc, add-one, arith, length, get_or, take, drop, drop-cons, drop-drop, drop_of_length-le, length-drop, length-replicate, replicate, take_all}
+use Rattle.std.proofs.lemmas.List.{drop_more}
 use Rattle.base.proofs.Count.{left-more}
 use Rattle.key.specs.Order.{order, then, byte_order}
 use Rattle.key.specs.Comparisons.{widths, if_equal, through, compared_by, compared}
@@ -127,28 +128,62 @@ module _ (a b : List ℕ) (w n : ℕ) (rest : List ℕ) (r : Compared) where
 abbrev pub by_bytes : List ℕ → List ℕ → Compared
 by_bytes a b = compared_by (replicate (min (length a) (length b)) 1) a b
 
-module _ (a b : List ℕ) (both : ℕ) (m : both ≡ min (length a) (length b)) where
-  pub bytes-begin : Left a b 1 both [] (by_bytes a b) 0
-  bytes-begin = begins a b 1 both [] (by_bytes a b) (rw (append-nil, m))
+-- the byte that stands behind the first i, and what stands behind it
+behind_first : (s : List ℕ) (i x : ℕ) (r : List ℕ) → x ∷ r ≡ drop i s → (i < length s) × (x ≡ get_or s i 0) × (r ≡ drop (i + 1) s)
+behind_first s i x r e =
+    let h : i < length s = omega (arith, length-drop i s, ap length e) in
+    let f : x ∷ r ≡ get_or s i 0 ∷ drop (i + 1) s = e ∙ drop_more s i 0 h in
+    (h, cc, cc)
+
+module _ (a b : List ℕ) where
+  abbrev both : ℕ
+  both = min (length a) (length b)
+
+  -- i bytes of each were compared and agree, and these lists are left of the two
+  pub record Rests (i : ℕ) (ra rb : List ℕ) : Type 0 where
+    pub first : ra ≡ drop i a
+    pub second : rb ≡ drop i b
+    pub left : Left a b 1 both [] (by_bytes a b) i
+
+  pub rests-begin : (i : ℕ) (ra rb : List ℕ) → i ≡ 0 → ra ≡ a → rb ≡ b → Rests i ra rb
+  rests-begin i ra rb e f g = rw (e, f, g) (record { first = refl; second = refl; left = begins a b 1 both [] (by_bytes a b) (rw (append-nil)) })
 
   -- a turn
-  module _ (i : ℕ) (inv : Left a b 1 both [] (by_bytes a b) i) (h : i < both) (x y : ℕ) (p : x ≡ get_or a i 0) (q : y ≡ get_or b i 0) where
+  module _ (i x y : ℕ) (ra rb : List ℕ) (inv : Rests i (x ∷ ra) (y ∷ rb)) where
+    in_a : (i < length a) × (x ≡ get_or a i 0) × (ra ≡ drop (i + 1) a)
+    in_a = behind_first a i x ra inv.first
+
+    in_b : (i < length b) × (y ≡ get_or b i 0) × (rb ≡ drop (i + 1) b)
+    in_b = behind_first b i y rb inv.second
+
     one : order x y ≡ byte_order (part a (1 * i) 1) (part b (1 * i) 1)
     unfolding part byte_order
     one =
-        rw (one-mul, p, q, drop-cons a i 0 (omega arith), drop-cons b i 0 (omega arith))
+        rw (one-mul, in_a.1, in_b.1, drop-cons a i 0 in_a.0, drop-cons b i 0 in_b.0)
         (sym (then_equal (order (get_or a i 0) (get_or b i 0))))
 
-    pub bytes_differ : (x ≡ y → ⊥) → record { order = order x y; comparisons = i + 1 } ≡ by_bytes a b
-    bytes_differ n = differs a b 1 both [] (by_bytes a b) i inv h (omega arith) (omega arith) x y one n
+    pub rests_differ : (x ≡ y → ⊥) → record { order = order x y; comparisons = i + 1 } ≡ by_bytes a b
+    rests_differ n =
+        differs a b 1 both [] (by_bytes a b) i inv.left (omega (arith, in_a.0, in_b.0)) (omega (arith, in_a.0)) (omega (arith, in_b.0)) x y one n
 
-    pub bytes_agree : x ≡ y → Left a b 1 both [] (by_bytes a b) (i + 1)
-    bytes_agree n = agrees a b 1 both [] (by_bytes a b) i inv h (omega arith) (omega arith) x y one n
+    pub rests_agree : x ≡ y → Rests (i + 1) ra rb
+    rests_agree n =
+        record {
+          first = in_a.2;
+          second = in_b.2;
+          left =
+              agrees a b 1 both [] (by_bytes a b) i inv.left (omega (arith, in_a.0, in_b.0)) (omega (arith, in_a.0)) (omega (arith, in_b.0)) x y one n;
+        }
 
-  -- none is left: the lengths decide
-  pub bytes_end : (i : ℕ) → Left a b 1 both [] (by_bytes a b) i → both ≤ i → record { order = order (length a) (length b); comparisons = both } ≡ by_bytes a b
+  -- nothing is left of one: the lengths decide
+  pub rests_end : (i : ℕ) (ra rb : List ℕ) → Rests i ra rb → both ≤ i → record { order = order (length a) (length b); comparisons = both } ≡ by_bytes a b
   unfolding through
-  bytes_end i inv h = rw (← by_length a b both m) (rw (one-mul, add-zero) at (ends a b 1 both [] (by_bytes a b) i inv h))
+  rests_end i ra rb inv h = rw (← by_length a b both refl) (rw (one-mul, add-zero) at (ends a b 1 both [] (by_bytes a b) i inv.left h))
+
+  -- where nothing is left of one, as many were compared as the shorter has
+  pub rests_none : {P Q : Type 0} (i : ℕ) (ra rb : List ℕ) → Rests i ra rb → (P → length ra ≡ 0) → (Q → length rb ≡ 0) → P ⊎ Q → both ≤ i
+  rests_none i ra rb inv f g (inl p) = omega (arith, f p, ap length inv.first, length-drop i a)
+  rests_none i ra rb inv f g (inr q) = omega (arith, g q, ap length inv.second, length-drop i b)
 
 -- single bytes are compared no oftener than there are any
 bytes_most : (a b : List ℕ) → (by_bytes a b).comparisons ≤ length a

@@ -8,5 +8,5 @@ drop-replicate (suc n) zero a = rw zero-sub
 drop-replicate (suc n) (suc m) a = rw suc-sub-suc (drop-replicate n m a)
 
 -- a byte string copied into n zeroes
-pub paste-zeros : (n : ℕ) (s : List ℕ) → paste (replicate n 0) 0 s (length s) ≡ s ++ replicate (n - length s) 0
-paste-zeros n s = rw (take-length, zero-add, drop-replicate (length s) n 0)
+pub paste_zeros : (n : ℕ) (s : List ℕ) → paste (replicate n 0) 0 s (length s) ≡ s ++ replicate (n - length s) 0
+paste_zeros n s = rw (take-length, zero-add, drop-replicate (length s) n 0)

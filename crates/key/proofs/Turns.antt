@@ -1,10 +1,10 @@
 -- What one turn of a loop adds to the number that the first n bytes make: one byte more.
 use Rattle.std.specs.Int.{w64, from_be_bytes}
 use Rattle.std.specs.Prelude.{◌≡◌, ◌∷◌, ◌+◌, ◌*◌, ◌^◌, ◌≤◌, ◌<◌}
-use Rattle.base.specs.Kit.{ap, List, [], ℕ, zero, suc, pow-le-pow_right, pow-suc, mul_assoc, arith, get_or}
+use Rattle.base.specs.Kit.{◌∙◌, ap, take, List, [], ℕ, zero, suc, pow-le-pow_right, pow-suc, mul_assoc, arith, get_or}
 use Rattle.key.specs.Ikey.{be}
 use Rattle.key.proofs.Bytes.{bytes_of}
-use Rattle.key.proofs.Ikey.{be-lt}
+use Rattle.key.proofs.Ikey.{be-lt, be_of-take}
 
 -- one byte more is the lowest of the number
 pub be-more : (n : ℕ) (s : List ℕ) → be (suc n) s ≡ be n s * 256 + get_or s n 0
@@ -27,3 +27,7 @@ eight s = omega (arith, be-more 7 s, be-more 6 s, be-more 5 s, be-more 4 s, be-m
 
 pub be-eight : (s : List ℕ) → from_be_bytes w64 s ≡ be 8 s
 be-eight s = eight s
+
+-- the same of a word w that is the first eight bytes of s
+pub be_eight_at : (s : List ℕ) (w : List ℕ) → w ≡ take 8 s → from_be_bytes w64 w ≡ be 8 s
+be_eight_at s w e = be-eight w ∙ ap (be 8) e ∙ be_of-take 8 s

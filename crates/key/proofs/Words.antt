@@ -1,48 +1,56 @@
 -- Copies by words: eight bytes are a word, and a word may be copied over the end of what is copied already.
-use Rattle.std.specs.Prelude.{◌≡◌, ◌++◌, ◌+◌, ◌-◌, ◌≤◌}
-use Rattle.base.specs.Kit.{sym, ◌∙◌, ap, List, append_assoc, ℕ, min, zero-min, arith, length, take, drop, length-drop, paste, paste-zero, length-take-le, take-take, take-add, take-append-add, take-paste, drop-drop, drop-paste}
+use Rattle.std.specs.Prelude.{◌≡◌, ◌+◌, ◌-◌, ◌≤◌}
+use Rattle.base.specs.Kit.{refl, sym, ◌∙◌, ap, List, ℕ, min, zero-min, arith, length, paste, take, drop, length-drop, length-paste, length-take-le, take-take, take-add, take_all, take-paste}
+use Rattle.std.proofs.lemmas.Slice.{put_mid-paste}
 use Rattle.key.specs.Part.{part}
 use Rattle.key.specs.CodeWords.{paste_word}
+use borrow.Rule.Slice.PartMut.{put_mid}
 
--- eight bytes that go through a word p of their own
-module _ (s : List ℕ) (i : ℕ) {from : ℕ} {p : List ℕ} (long : 8 ≤ length s) (e : from ≡ min i (length s - 8)) (g : p ≡ part s from 8) where
-  pub word-long : length p ≡ 8
+module _ (s : List ℕ) (long : 8 ≤ length s) where
+  -- the eight bytes from n on
+  part-long : (n : ℕ) → n + 8 ≤ length s → length (part s n 8) ≡ 8
   unfolding part
-  word-long = rw g (length-take-le 8 (drop from s) (simp length-drop (omega arith)))
+  part-long n h = length-take-le 8 (drop n s) (simp length-drop (omega arith))
 
-  pub word_in : (d : List ℕ) (at : ℕ) {b : List ℕ} → b ≡ paste d (at + from) p (length p) → b ≡ paste_word d at s i
+  -- eight bytes that go through a word p of their own
+  pub word_in : (d : List ℕ) (i : ℕ) {n k : ℕ} {p b : List ℕ} → n ≡ min i (length s - 8) → k ≡ 8 → p ≡ part s n 8 → b ≡ p → put_mid n k d b ≡ paste_word d s i
   unfolding paste_word
-  word_in d at k = k ∙ rw (word-long, g, e)
+  word_in d i {n} {k} {p} {b} e f g h =
+      put_mid-paste n k d b (part s n 8) 8 (h ∙ g) (sym f) (sym (part-long n (omega arith))) ∙ rw e refl
 
--- n are copied; m copied from i on, where i ≤ n ≤ i + m, make it i + m
-module _ (d s : List ℕ) (at n i m : ℕ) (fits : at + (i + m) ≤ length d) (enough : i + m ≤ length s) (low : i ≤ n) (high : n ≤ i + m) where
-  front : take (at + i) (paste d at s n) ≡ take at d ++ take i s
-  front =
-      let e : length (take at d) ≡ at = length-take-le at d (omega arith) in
-      sym (take-take (at + i) (at + n) (paste d at s n) (omega arith)) ∙ ap (take (at + i)) (take-paste d at s n (omega arith) (omega arith))
-      ∙ (rw e at (take-append-add (take at d) (take n s) i)) ∙ ap (λ (t : List ℕ). take at d ++ t) (take-take i n s low)
+  -- of d, which is as long as s, the first n are those of s
+  record Copied (d : List ℕ) (n : ℕ) : Type 0 where
+    same_len : length d ≡ length s
+    same : take n d ≡ take n s
 
-  rest : drop (at + i + m) (paste d at s n) ≡ drop (at + (i + m)) d
-  rest =
-      let e : at + n + (i + m - n) ≡ at + (i + m) = omega arith in
-      let g : at + i + m ≡ at + (i + m) = omega arith in
-      rw (g, ← e, ← drop-drop (i + m - n) (at + n) (paste d at s n), drop-paste d at s n (omega arith) (omega arith)) (drop-drop (i + m - n) (at + n) d)
+  -- a word more
+  word_on : (d : List ℕ) (i : ℕ) → Copied d (min i (length s)) → Copied (paste_word d s i) (min (i + 8) (length s))
+  unfolding paste_word part
+  word_on d i h =
+      let n = min i (length s - 8) in
+      let e : n + 8 ≡ min (i + 8) (length s) = omega arith in
+      let p = take 8 (drop n s) in
+      let f : length p ≡ 8 = part-long n (omega arith) in
+      let front : take n d ≡ take n s =
+      sym (take-take n (min i (length s)) d (omega arith)) ∙ ap (take n) h.same ∙ take-take n (min i (length s)) s (omega arith) in
+      record {
+        same_len = length-paste d n p 8 (omega (arith, h.same_len)) (omega arith) ∙ h.same_len;
+        same = rw (← e, take-paste d n p 8 (omega (arith, h.same_len)) (omega arith), front, take-take 8 8 (drop n s) (omega arith), ← take-add n 8 s) refl;
+      }
 
-  paste-on : paste (paste d at s n) (at + i) (part s i m) m ≡ paste d at s (i + m)
-  unfolding part
-  paste-on = rw (front, rest, take-take m m (drop i s) (omega arith), take-add i m s, append_assoc (take at d) (take i s))
+  -- all of at most 32
+  four-words : length s ≤ 32 → (d : List ℕ) {a b c e : List ℕ} → length d ≡ length s → a ≡ paste_word d s 0 → b ≡ paste_word a s 8 → c ≡ paste_word b s 16
+      → e ≡ paste_word c s 24 → e ≡ s
+  four-words h d {a} {b} {c} {e} same p q r t =
+      let first : Copied a (min 8 (length s)) = rw p (word_on d 0 (record { same_len = same; same = rw zero-min refl })) in
+      let second : Copied b (min 16 (length s)) = rw q (word_on a 8 first) in
+      let third : Copied c (min 24 (length s)) = rw r (word_on b 16 second) in
+      let last : Copied e (min 32 (length s)) = rw t (word_on c 24 third) in
+      let n = min 32 (length s) in
+      sym (take_all n e (omega (arith, last.same_len))) ∙ last.same ∙ take_all n s (omega arith)
 
-module _ (d s : List ℕ) (at : ℕ) (fits : at + length s ≤ length d) (long : 8 ≤ length s) where
-  -- the first i bytes are copied, or all where there are fewer; a word more
-  word_on : (i : ℕ) {b c : List ℕ} → b ≡ paste d at s (min i (length s)) → c ≡ paste_word b at s i → c ≡ paste d at s (min (i + 8) (length s))
-  unfolding paste_word
-  word_on i p q =
-      let from = min i (length s - 8) in
-      let e : from + 8 ≡ min (i + 8) (length s) = omega arith in
-      q ∙ rw (p, ← e) (paste-on d s at (min i (length s)) from 8 (omega arith) (omega arith) (omega arith) (omega arith))
-
-  pub four-words : length s ≤ 32 → {a b c e : List ℕ} → a ≡ paste_word d at s 0 → b ≡ paste_word a at s 8 → c ≡ paste_word b at s 16
-      → e ≡ paste_word c at s 24 → e ≡ paste d at s (length s)
-  four-words h p q r t =
-      let all : min 32 (length s) ≡ length s = omega arith in
-      rw all at (word_on 24 (word_on 16 (word_on 8 (word_on 0 (rw zero-min (paste-zero d at s)) p) q) r) t)
+  -- the same, in the buffer that they are part of
+  pub words_in : length s ≤ 32 → (buf : List ℕ) (at k : ℕ) (d a b c e : List ℕ) → length d ≡ length s → k ≡ length s → a ≡ paste_word d s 0 → b ≡ paste_word a s 8
+      → c ≡ paste_word b s 16 → e ≡ paste_word c s 24 → put_mid at k buf e ≡ paste buf at s (length s)
+  words_in h buf at k d a b c e same whole p q r t =
+      put_mid-paste at k buf e s (length s) (four-words h d same p q r t) (sym whole) refl

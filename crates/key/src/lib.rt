@@ -22,7 +22,7 @@ pub struct Compared {
     pub comparisons: usize,
 }
 
-// The n bytes of s from `at` on.
+// The n bytes of s from `at` on: a name for a slice's part, as definitions have it.
 #[tactic(auto, unfolding(crate::specs::Part::part))]
 pub fn part_of<'a>(s: &'a [u8], at: usize, n: usize) -> &'a [u8]
     requires { at + n ≤ length s.now }
@@ -39,6 +39,7 @@ pub fn first<'a>(s: &'a [u8], n: usize) -> &'a [u8]
 }
 
 // Eight bytes of a key as one number, the first one highest: one load, and its bytes turned.
+#[tactic(auto, using(crate::proofs::Turns::be_eight_at))]
 fn eight_at(s: &[u8], at: usize) -> u64
     requires { at + 8 ≤ length s.now }
     ensures { result ≡ be 8 (drop at s.now) }
@@ -51,24 +52,22 @@ fn eight_at(s: &[u8], at: usize) -> u64
 fn compare_bytes(a: &[u8], b: &[u8]) -> Compared
     ensures { result ≡ compared_by (replicate (min (length a.now) (length b.now)) 1) a.now b.now }
 {
-    let both = a.len().min(b.len());
-    for i in 0..both {
-        let x = a[i];
-        let y = b[i];
+    for (i, (x, y)) in a.iter().zip(b).enumerate() {
         if x != y {
             return Compared {
-                order: x.cmp(&y),
+                order: x.cmp(y),
                 comparisons: i + 1,
             };
         }
     }
     Compared {
         order: a.len().cmp(&b.len()),
-        comparisons: both,
+        comparisons: a.len().min(b.len()),
     }
 }
 
-// Two keys compared by eights while both have eight left, then by single bytes.
+// Two keys compared by eights while both have eight left, then by single bytes. Eights are counted: what is behind the last of them is cut by
+// their number, and chunks of both would be slices whose length is asked for again.
 pub fn compare_by_eights(a: &[u8], b: &[u8]) -> Compared
     ensures { result ≡ compared a.now b.now }
 {
@@ -108,6 +107,7 @@ pub fn ikey_of(key: &[u8]) -> u64
 }
 
 // The eight bytes of an ikey, first byte highest.
+#[tactic(auto, unfolding(crate::specs::Ikey::ikey_bytes, crate::specs::Ikey::digits))]
 pub fn ikey_bytes(ikey: u64) -> [u8; 8]
     ensures { result ≡ ikey_bytes ikey }
 {
@@ -123,35 +123,40 @@ pub fn copy_in(buf: &mut [u8], at: usize, s: &[u8])
     buf[at..at + s.len()].copy_from_slice(s);
 }
 
-// Eight bytes of s into buf, where s begins at `at`: those from i on, or the last eight where fewer are left. They go through
-// a word of their own, so that they are one load and one store.
-fn copy_word(buf: &mut [u8], at: usize, s: &[u8], i: usize)
-    requires in_bounds { 8 ≤ length s.now }
-    requires s_in_bounds { at + length s.now ≤ length buf.old }
-    ensures { buf.new ≡ paste_word buf.old at s.now i }
+// Eight bytes of s to their place in d: those from i on, or the last eight where fewer are left. They go through a word of their own,
+// so that they are one load and one store.
+#[tactic(auto, unfolding(crate::specs::Part::part), using(crate::proofs::Words::word_in))]
+fn copy_word(d: &mut [u8], s: &[u8], i: usize)
+    requires s_len { 8 ≤ length s.now }
+    requires same_len { length d.old ≡ length s.now }
+    ensures { d.new ≡ paste_word d.old s.now i }
 {
     let from = i.min(s.len() - 8);
     let word = le::bytes_at::<8>(s, from);
-    copy_in(buf, at + from, &word);
+    d[from..from + 8].copy_from_slice(&word);
 }
 
 // The same as `copy_in`; 8 to 32 bytes go in four words, whatever their number: a word copied twice costs less than a branch that
-// is guessed wrongly.
+// is guessed wrongly. (Four lines are plainer than a loop over four numbers.)
+#[tactic(auto, using(crate::proofs::Words::words_in))]
 pub fn copy_words_in(buf: &mut [u8], at: usize, s: &[u8])
     requires { at + length s.now ≤ length buf.old }
     ensures { buf.new ≡ paste buf.old at s.now (length s.now) }
 {
+    let d = &mut buf[at..at + s.len()];
     if 8 <= s.len() && s.len() <= 32 {
-        copy_word(buf, at, s, 0);
-        copy_word(buf, at, s, 8);
-        copy_word(buf, at, s, 16);
-        copy_word(buf, at, s, 24);
+        copy_word(d, s, 0);
+        copy_word(d, s, 8);
+        copy_word(d, s, 16);
+        copy_word(d, s, 24);
     } else {
-        copy_in(buf, at, s);
+        d.copy_from_slice(s);
     }
 }
 
-// A key in a buffer of 256 bytes, zero past its end.
+// A key in a buffer of 256 bytes, zero past its end. The bound stands in cursor's `from_slice` and `bound_of` too: a type for a key of at
+// most 256 bytes would be made at one caller, a walk's placing, and be no plainer.
+#[tactic(auto, unfolding(crate::specs::Part::padded), using(crate::proofs::Part::paste_zeros))]
 pub fn padded(key: &[u8]) -> [u8; 256]
     requires { length key.now ≤ 256 }
     ensures { result ≡ padded key.now }

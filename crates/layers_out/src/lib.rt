@@ -13,196 +13,148 @@ ghost use Rattle.building.specs.Shape.{size_s};
 ghost use Rattle.building.specs.CodeOrder.{filled, tower};
 ghost use Rattle.building.specs.CodeSiblings.{end_l};
 ghost use Rattle.building.specs.CodeLaid.{laid};
-ghost use Rattle.groups.specs.CodeGroups.{slots_at, GroupRead};
+ghost use Rattle.groups.specs.CodeLines.{slots_in, first_slots};
 ghost use Rattle.image_out.specs.CodeRows.{slots_of, HoldsSlots};
 ghost use Rattle.slots_out.specs.CodeSlots.{GroupLaid};
-ghost use Rattle.layers_out.specs.CodeCycle.{Given, Room, leaf_at, leaves_at, siblings_at, layer_at, group_at, Wrote, Closed, LayerRoom, LayerWrote, GroupsLaid};
+ghost use Rattle.layers_out.specs.CodeCycle.{Room, leaf_at, leaves_at, siblings_at, layer_at, Wrote, Closed, LayerRoom, LayerWrote, GroupsLaid};
 
-use groups::Group;
-use image_out::LeafSlots;
+mod run;
+
+use groups::{FirstGroup, LayerLines};
+use node::internode::INTERNODE_SIZE;
+use node::leaf::{LAYER_KEYLENX, LEAF_SIZE};
+pub use run::{Parts, Run};
 use slots_out::Slotted;
 
-// How far a layer has come: the place reached in the output; the next station line, and how many of the layer's lines are left; the layer's
-// last leaf so far, 0 where it has none, as a leaf's `next` says it; and the subtree written last, its record's place and its first ikey.
-#[derive(Clone, Copy)]
-pub struct Run {
-    pub at: usize,
-    pub line: usize,
-    pub left: usize,
-    pub prev: usize,
-    pub node: usize,
-    pub first: u64,
-}
-
-// A leaf's parts: the place behind them, the next station line and how many are left, and the slots.
-#[derive(Clone, Copy)]
-pub struct Parts {
-    pub at: usize,
-    pub line: usize,
-    pub left: usize,
-    pub slots: LeafSlots,
-}
-
 // A layer of some station lines: levels until no line is left.
-#[cycle(write_group_write_groups_write_internode_write_layer_write_leaf_write_subtree)]
-pub fn write_layer(
-    out: &mut [u8],
-    sheet: &[u8],
-    below: usize,
-    at: usize,
-    line: usize,
-    left: usize,
-) -> Run
-    requires { LayerRoom out.old sheet.now below at line left }
-    ensures { LayerWrote out.old out.new at result (layer_at sheet.now below line left) }
+#[cycle(layers)]
+pub fn write_layer<'a>(out: &mut [u8], at: usize, lines: LayerLines<'a>) -> Run<'a>
+    requires { LayerRoom out.old at lines }
+    ensures { LayerWrote out.old out.new at result (layer_at lines.entry) }
 {
     let begin = Run {
         at,
-        line,
-        left,
+        lines,
         prev: 0,
         node: 0,
         first: 0,
     };
-    let mut r = write_leaf(out, sheet, below, begin);
+    let mut r = write_leaf(out, begin);
     // No range for h: how high the layer is shows only where no line is left.
     let mut h = 0;
-    while 0 < r.left {
-        r = write_internode(out, sheet, below, h, r);
+    while 0 < r.lines.left {
+        r = write_internode(out, h, r);
         h += 1;
     }
     r
 }
 
 // An internode over the subtree of height h that was written last, and up to fifteen more beside it.
-#[cycle(write_group_write_groups_write_internode_write_layer_write_leaf_write_subtree)]
-fn write_internode(out: &mut [u8], sheet: &[u8], below: usize, h: usize, r: Run) -> Run
+#[cycle(layers)]
+fn write_internode<'a>(out: &mut [u8], h: usize, r: Run<'a>) -> Run<'a>
     requires h_bound { h ≤ 11 }
-    requires given { Given sheet.now below r.line r.left }
-    requires room { Room out.old r.at r.prev (end_l r.at (siblings_at sheet.now below r.line r.left h 15) + 256) }
-    ensures { Closed sheet.now below h out.old out.new r result (siblings_at sheet.now below r.line r.left h 15) }
+    requires room { Room out.old r.at r.prev (end_l r.at (siblings_at r.lines h 15) + 256) }
+    ensures { Closed h out.old out.new r.entry result (siblings_at r.entry.lines h 15) }
 {
     let mut c = image_out::first_child(r.node as u64);
     let mut q = r;
     for _ in 0..15_usize {
-        if q.left == 0 {
+        if q.lines.left == 0 {
             break;
         }
-        q = write_subtree(out, sheet, below, h, q);
+        q = write_subtree(out, h, q);
         c = image_out::add_child(c, q.first, q.node as u64);
     }
     image_out::put_internode(out, q.at, c);
     Run {
-        at: q.at + 256,
+        at: q.at + INTERNODE_SIZE,
+        lines: q.lines,
+        prev: q.prev,
         node: q.at,
         first: r.first,
-        ..q
     }
 }
 
 // A subtree of height h.
-#[cycle(write_group_write_groups_write_internode_write_layer_write_leaf_write_subtree)]
-fn write_subtree(out: &mut [u8], sheet: &[u8], below: usize, h: usize, r: Run) -> Run
+#[cycle(layers)]
+fn write_subtree<'a>(out: &mut [u8], h: usize, r: Run<'a>) -> Run<'a>
     requires h_bound { h ≤ 11 }
-    requires left_nonzero { 0 < r.left }
-    requires given { Given sheet.now below r.line r.left }
-    requires room { Room out.old r.at r.prev (end_n r.at (tower h (leaves_at sheet.now below r.line r.left))) }
-    ensures { Wrote sheet.now below (16 ^ h) out.old out.new r result (tower h (leaves_at sheet.now below r.line r.left)) }
+    requires left_nonzero { 0 < r.lines.left }
+    requires room { Room out.old r.at r.prev (end_n r.at (tower h (leaves_at r.lines))) }
+    ensures { Wrote (16 ^ h) out.old out.new r.entry result (tower h (leaves_at r.entry.lines)) }
 {
     if h == 0 {
-        return write_leaf(out, sheet, below, r);
+        return write_leaf(out, r);
     }
-    let q = write_subtree(out, sheet, below, h - 1, r);
-    write_internode(out, sheet, below, h - 1, q)
+    let q = write_subtree(out, h - 1, r);
+    write_internode(out, h - 1, q)
 }
 
 // One leaf: its parts, its record, and the previous leaf's `next`.
-#[cycle(write_group_write_groups_write_internode_write_layer_write_leaf_write_subtree)]
-fn write_leaf(out: &mut [u8], sheet: &[u8], below: usize, r: Run) -> Run
-    requires given { Given sheet.now below r.line r.left }
-    requires room { Room out.old r.at r.prev (end_n r.at (leaf_at sheet.now below r.line r.left)) }
-    ensures { Wrote sheet.now below 1 out.old out.new r result (leaf_at sheet.now below r.line r.left) }
+#[cycle(layers)]
+fn write_leaf<'a>(out: &mut [u8], r: Run<'a>) -> Run<'a>
+    requires { Room out.old r.at r.prev (end_n r.at (leaf_at r.lines)) }
+    ensures { Wrote 1 out.old out.new r.entry result (leaf_at r.entry.lines) }
 {
-    let p = write_groups(out, sheet, below, r.at, r.line, r.left);
-    image_out::put_leaf(out, p.at, p.slots);
-    image_out::link(out, r.prev, p.at);
+    let p = write_groups(out, r);
+    let leaf = p.slotted;
+    image_out::put_leaf(out, leaf.at, leaf.slots);
+    image_out::link(out, r.prev, leaf.at);
     Run {
-        at: p.at + 400,
-        line: p.line,
-        left: p.left,
-        prev: p.at,
-        node: p.at,
-        first: p.slots.ikeys[0],
+        at: leaf.at + LEAF_SIZE,
+        lines: p.lines,
+        prev: leaf.at,
+        node: leaf.at,
+        first: leaf.slots.ikeys[0],
     }
 }
 
 // The parts of a leaf: whole groups while fifteen slots hold them.
-#[cycle(write_group_write_groups_write_internode_write_layer_write_leaf_write_subtree)]
-fn write_groups(
-    out: &mut [u8],
-    sheet: &[u8],
-    below: usize,
-    at: usize,
-    line: usize,
-    left: usize,
-) -> Parts
-    requires given { Given sheet.now below line left }
-    requires room { Room out.old at 0 (end_s at (filled 15 (slots_at sheet.now below line left))) }
-    ensures { GroupsLaid sheet.now below line left out.new result (laid (record { out = out.old; at = at; fields = [] }) (filled 15 (slots_at sheet.now below line left))) }
+#[cycle(layers)]
+fn write_groups<'a>(out: &mut [u8], r: Run<'a>) -> Parts<'a>
+    requires { Room out.old r.at 0 (end_s r.at (filled 15 (slots_in r.lines))) }
+    ensures { GroupsLaid r.entry.lines out.new result (laid (record { out = out.old; at = r.entry.at; fields = [] }) (filled 15 (slots_in r.entry.lines))) }
 {
-    let mut p = Parts {
-        at,
-        line,
-        left,
+    let mut lines = r.lines;
+    let mut slotted = Slotted {
+        at: r.at,
         slots: image_out::no_slots(),
     };
-    while 0 < p.left {
-        let g = groups::group_at(sheet, p.line, p.left, below);
-        if 15 < p.slots.n + g.slots() {
-            return p;
+    // No `for`: the lines behind the last group that the leaf holds are a part of the answer.
+    while 0 < lines.left {
+        let first = lines.first_group();
+        if 15 < slotted.slots.n + first.group.slots() {
+            break;
         }
-        let q = write_group(out, sheet, below, p.line, p.left, g, p.at, p.slots);
-        p = Parts {
-            at: q.at,
-            line: g.behind,
-            left: p.left - (g.shorts + g.longs),
-            slots: q.slots,
-        };
+        slotted = write_group(out, first, slotted);
+        lines = first.rest();
     }
-    p
+    Parts { lines, slotted }
 }
 
-// One group among the lines that are left: its short keys, and a suffix or a layer for those that go on.
-#[cycle(write_group_write_groups_write_internode_write_layer_write_leaf_write_subtree)]
-fn write_group(
-    out: &mut [u8],
-    sheet: &[u8],
-    below: usize,
-    line: usize,
-    left: usize,
-    g: Group,
-    at: usize,
-    slots: LeafSlots,
-) -> Slotted
-    requires left_nonzero { 0 < left }
-    requires given { Given sheet.now below line left }
-    requires group_read { GroupRead sheet.now (31 - below) line left g }
-    requires holds_slots { HoldsSlots (15 - size_s (group_at sheet.now below line left)) slots }
-    requires room { Room out.old at 0 (end_s at (group_at sheet.now below line left)) }
-    ensures { (fs : List Fields) → slots ≡ slots_of fs
-        → GroupLaid out.new result (laid (record { out = out.old; at = at; fields = fs }) (group_at sheet.now below line left)) }
+// One group: its short keys, and a suffix or a layer for those that go on; behind the parts that a leaf has.
+#[cycle(layers)]
+fn write_group(out: &mut [u8], first: FirstGroup, before: Slotted) -> Slotted
+    requires holds_slots { HoldsSlots (15 - size_s (first_slots first.lines)) before.slots }
+    requires room { Room out.old before.at 0 (end_s before.at (first_slots first.lines)) }
+    ensures { (fs : List Fields) → before.slots ≡ slots_of fs
+        → GroupLaid out.new result (laid (record { out = out.old; at = before.at; fields = fs }) (first_slots first.entry.lines)) }
 {
-    let s = slots_out::add_shorts(sheet, line, g.shorts, 31 - below, slots);
+    let lines = first.lines;
+    let g = first.group;
+    let depth = 31 - lines.below;
+    let slots = slots_out::add_shorts(lines.sheet, lines.line, g.shorts, depth, before.slots);
+    let so_far = Slotted { slots, ..before };
     if g.longs == 0 {
-        return Slotted { at, slots: s };
+        return so_far;
     }
     if g.longs == 1 {
-        return slots_out::add_suffix(out, at, sheet, g.long_line, 31 - below, s);
+        return slots_out::add_suffix(out, so_far, lines.sheet, g.long_line, depth);
     }
-    let head = groups::lowered_at(sheet, g.long_line, 31 - below);
-    let r = write_layer(out, sheet, below - 1, at, g.long_line, g.longs);
+    let head = groups::lowered_at(lines.sheet, g.long_line, depth);
+    let r = write_layer(out, so_far.at, first.layer_below());
     Slotted {
         at: r.at,
-        slots: image_out::add_slot(s, head.ikey, 128, r.node as u64, 0, false),
+        slots: image_out::add_slot(slots, head.ikey, LAYER_KEYLENX, r.node as u64, 0, false),
     }
 }

@@ -10,7 +10,8 @@ ghost use Rattle.lent.specs.Form.{answer_of};
 
 use walk::scan_state::{Answer, HandedOut, Stepped, Walk};
 
-// A step's answer, its moves and what its walk has handed out, without the walk.
+// A step's answer, its moves and what its walk has handed out, without the walk. (As a part of Stepped it would only make a step's fields
+// one word longer wherever one is read.)
 #[derive(Clone, Copy)]
 pub struct StepAnswer {
     pub answer: Answer,

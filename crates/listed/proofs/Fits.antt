@@ -5,8 +5,8 @@ use Rattle.base.specs.Pick.{pick}
 use Rattle.layering.specs.Keys.{Pair}
 use Rattle.sheet.specs.Sheet.{hex_key, first_line, pair_line, last_line, refused}
 use Rattle.sheet.specs.Written.{written_len, written_out}
-use Rattle.sheet.proofs.Decimal.{decimal-length}
-use Rattle.sheet.proofs.Hex.{hex_bytes-length}
+use Rattle.sheet.proofs.Decimal.{decimal_length}
+use Rattle.sheet.proofs.Hex.{hex_bytes_length}
 use Rattle.listed.specs.CodeLines.{blank}
 
 -- A text that fits.
@@ -36,29 +36,29 @@ module _ (text : List ℕ) (f : Fits text) where
 hex-length : (key : List ℕ) → length key ≤ 256 → length (hex_key key) ≤ 512
 unfolding hex_key
 hex-length [] h = omega arith
-hex-length (b ∷ s) h = omega (arith, hex_bytes-length (b ∷ s))
+hex-length (b ∷ s) h = omega (arith, hex_bytes_length (b ∷ s))
 
 pub first_fits : (n : ℕ) → Fits (first_line n)
 first_fits n = record {
   some = omega arith;
-  room = simp length-append (omega (arith, decimal-length n));
+  room = simp length-append (omega (arith, decimal_length n));
 }
 
 pub last_fits : (n : ℕ) → Fits (last_line n)
 last_fits n = record {
   some = omega arith;
-  room = simp length-append (omega (arith, decimal-length n));
+  room = simp length-append (omega (arith, decimal_length n));
 }
 
 pub refused-fits : (n : ℕ) → Fits (refused n)
 refused-fits n = record {
   some = omega arith;
-  room = simp length-append (omega (arith, decimal-length n));
+  room = simp length-append (omega (arith, decimal_length n));
 }
 
 pub pair_fits : (x : Pair) → length x.key ≤ 256 → Fits (pair_line x)
 unfolding pair_line
 pair_fits x h = record {
   some = simp length-append (omega arith);
-  room = simp length-append (omega (arith, decimal-length x.value, hex-length x.key h));
+  room = simp length-append (omega (arith, decimal_length x.value, hex-length x.key h));
 }

@@ -1,6 +1,7 @@
 -- The ways out of the functions, one law for each.
 use Rattle.std.specs.Prelude.{◌≡◌, ◌+◌, ◌%◌, ◌^◌, ◌≤◌, Option, Some, None, Result, Ok, Err}
 use Rattle.base.specs.Kit.{sym, ap, subst, List, ℕ, arith, length, replicate, take}
+use Rattle.base.specs.Decline.{decline_number}
 use Rattle.node.specs.Layout.{key_count}
 use Rattle.verify.specs.Check.{check_number, check}
 use Rattle.verify.proofs.Theorem.{accepted_obeys}
@@ -22,9 +23,9 @@ module _ (image : List ℕ) (to : Listing) where
   unfolding opened opened_as
   opened-accepted c k e g h = rw (← e, ← g) h
 
-  pub opened_declined : (d : Decline) → Err d ≡ check image → to ≡ begun (Refused d) image → to ≡ opened image
+  pub opened_declined : (d : Decline) (n : ℕ) → Err d ≡ check image → n ≡ decline_number d → to ≡ begun (Refused n) image → to ≡ opened image
   unfolding opened opened_as
-  opened_declined d e h = rw (← e) h
+  opened_declined d n e g h = rw (← e, ← g) h
 
 -- an accepted image has a trailer
 pub has_trailer : (image : List ℕ) (c : Counts) → Ok c ≡ check image → 32 ≤ length image

@@ -4,7 +4,7 @@
 use Rattle.std.specs.Prelude.{◌≡◌, ◌∷◌, ◌++◌, ◌+◌, ◌^◌, ◌≤◌, ◌<◌, Option, Some, None, Result, Ok, Err}
 use Rattle.base.specs.Kit.{refl, sym, ap, ◌∙◌, subst, Bool, true, List, [], append_assoc, append-nil, ℕ, zero, suc, zero-add, add-one, mod-eq_of_lt, arith, length, take, get_or, replicate, ne_eqb}
 use Rattle.base.specs.Pick.{pick}
-use Rattle.base.specs.Decline.{number_of as decline_number}
+use Rattle.base.specs.Decline.{decline_number}
 use Rattle.base.proofs.Declines.{never-zero}
 use Rattle.node.specs.Layout.{key_count}
 use Rattle.layering.specs.Keys.{Pair, live_pairs}
@@ -170,11 +170,11 @@ module _ (image : List ℕ) where
       (more _ _ _ _ _ _ (first_fits (key_count image)) refl (rw z at ih))
 
   -- A DECLINED ONE
-  declined_come : (d : Decline) (n : ℕ) → Comes 1 (suc n) (begun (Refused d) image) (refused (decline_number d))
+  declined_come : (d n : ℕ) → Comes 1 (suc n) (begun (Refused d) image) (refused d)
   unfolding next_line line_at begun
   declined_come d n =
-      subst (Comes 1 (suc n) (begun (Refused d) image)) (append-nil (refused (decline_number d)))
-      (more 0 n _ _ _ _ (refused-fits (decline_number d)) refl (done n 0 (place image From [] 0 []).walk))
+      subst (Comes 1 (suc n) (begun (Refused d) image)) (append-nil (refused d))
+      (more 0 n _ _ _ _ (refused-fits d) refl (done n 0 (place image From [] 0 []).walk))
 
   finish : (n : ℕ) (l : Listing) (k m : ℕ) (text : List ℕ) → opened image ≡ l → line_count image ≡ k → listed image ≡ text
       → m ≡ line_count image + n → Comes k m l text → AllLines image n
@@ -201,4 +201,4 @@ all_lines image b n = go (check image) refl
     go (Err d) e =
         let z = ne_eqb (decline_number d) 0 (never-zero d) in
         let k : line_count image ≡ 1 = rw (e, z) in
-        finish image n _ _ (suc n) _ (rw e) k (rw (e, z)) (omega arith) (declined_come image d n)
+        finish image n _ _ (suc n) _ (rw e) k (rw (e, z)) (omega arith) (declined_come image (decline_number d) n)

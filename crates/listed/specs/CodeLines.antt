@@ -2,7 +2,7 @@
 -- come to.
 use Rattle.std.specs.Prelude.{◌+◌, ◌%◌, ◌^◌, Option, Some, None, Result, Ok, Err}
 use Rattle.base.specs.Kit.{List, [], ℕ, take, replicate}
-use Rattle.base.specs.Decline.{number_of}
+use Rattle.base.specs.Decline.{decline_number}
 use Rattle.node.specs.Layout.{key_count}
 use Rattle.layering.specs.Keys.{Pair}
 use Rattle.verify.specs.Check.{check}
@@ -31,7 +31,7 @@ begun stage image = record { stage = stage; moves = 0; walk = (place image From 
 
 unfoldable pub opened_as : Result Counts Decline → List ℕ → Listing
 opened_as (Ok c) image = begun (First (key_count image)) image
-opened_as (Err d) image = begun (Refused d) image
+opened_as (Err d) image = begun (Refused (decline_number d)) image
 
 unfoldable pub opened : List ℕ → Listing
 opened image = opened_as (check image) image
@@ -55,7 +55,7 @@ step_line l s = answer_line l s s.answer
 unfoldable pub line_at : Stage → Listing → List ℕ → Result (Option Line) Decline
 line_at (First count) l image = Ok (Some (line_of (first_line count) (at Pairs l)))
 line_at Pairs l image = step_line l (step l.walk image)
-line_at (Refused d) l image = Ok (Some (line_of (refused (number_of d)) (at Done l)))
+line_at (Refused n) l image = Ok (Some (line_of (refused n) (at Done l)))
 line_at Done l image = Ok None
 
 unfoldable pub next_line : Listing → List ℕ → Result (Option Line) Decline

@@ -4,7 +4,7 @@
 use Rattle.std.specs.Prelude.{◌∷◌, ◌++◌, ◌≡◌, ◌+◌, ◌≤◌, ◌<◌, Option, Some, None, Result, Ok, Err}
 use Rattle.base.specs.Kit.{List, [], ℕ, zero, suc, eqb, length, take, replicate}
 use Rattle.base.specs.Pick.{pick}
-use Rattle.base.specs.Decline.{number_of}
+use Rattle.base.specs.Decline.{decline_number}
 use Rattle.node.specs.Layout.{key_count}
 use Rattle.layering.specs.Keys.{Pair}
 use Rattle.layering.specs.Sieve.{row_of}
@@ -55,7 +55,7 @@ text_of (x ∷ xs) = line_text x ++ text_of xs
 
 unfoldable pub line_number : Result (Option Line) Decline → ℕ
 line_number (Ok x) = 0
-line_number (Err d) = number_of d
+line_number (Err d) = decline_number d
 
 unfoldable pub line_numbers : List (Result (Option Line) Decline) → List ℕ
 line_numbers [] = []

@@ -6,23 +6,24 @@
 
 ghost use Rattle.std.specs.Prelude.{◌≡◌};
 ghost use Rattle.std.specs.Fn.{FnOnceReturnsAtMut};
-ghost use Rattle.base.specs.Kit.{replicate};
+ghost use Rattle.base.specs.Kit.{take, replicate};
 ghost use Rattle.scan.specs.Machine.{step};
 ghost use Rattle.listed.specs.CodeLines.{begun, opened, step_line, next_line};
 
 use base::Decline;
 use cursor::range_bound::StartMode;
 use key::first;
-use node::trailer;
+use node::trailer::Trailer;
 use sheet::LINE;
 use walk::scan_state::Walk;
 
-// What comes next: the first line, with the trailer's key count; the pairs and the last line; a decline's only line; or nothing.
+// What comes next: the first line, with the trailer's key count; the pairs and the last line; a decline's only line, with its number; or
+// nothing. The number is any u8: a `Decline` would ask more of a caller that makes a listing.
 #[derive(Clone, Copy)]
 pub enum Stage {
     First(u64),
     Pairs,
-    Refused(Decline),
+    Refused(u8),
     Done,
 }
 
@@ -35,11 +36,20 @@ pub struct Listing {
 }
 
 // A line: the first `len` of its bytes, and the listing after it.
+// An array and a length, since there is no heap; no line is longer than `LINE`.
 #[derive(Clone, Copy)]
 pub struct Line {
     pub len: usize,
     pub bytes: [u8; LINE],
     pub listing: Listing,
+}
+
+impl Line {
+    pub fn text(&self) -> &[u8]
+        ensures { result.now ≡ take self.now.len self.now.bytes }
+    {
+        first(&self.bytes, self.len)
+    }
 }
 
 // A listing at its begin: the walk from the empty key on, unbounded.
@@ -59,8 +69,8 @@ pub fn open(image: &[u8]) -> Listing
     ensures { result ≡ opened image.now }
 {
     match verify::check_image(image) {
-        Ok(_) => begin(Stage::First(trailer::key_count(image)), image),
-        Err(decline) => begin(Stage::Refused(decline), image),
+        Ok(_) => begin(Stage::First(Trailer { image }.key_count()), image),
+        Err(decline) => begin(Stage::Refused(u8::from(decline)), image),
     }
 }
 
@@ -121,12 +131,12 @@ pub fn next_line(listing: Listing, image: &[u8]) -> Result<Option<Line>, Decline
             Ok(Some(written(|out| sheet::first_line(out, count), after)))
         }
         Stage::Pairs => step_line(listing, image),
-        Stage::Refused(decline) => {
+        Stage::Refused(number) => {
             let after = Listing {
                 stage: Stage::Done,
                 ..listing
             };
-            let number = u64::from(u8::from(decline));
+            let number = u64::from(number);
             Ok(Some(written(|out| sheet::refused_line(out, number), after)))
         }
         Stage::Done => Ok(None),

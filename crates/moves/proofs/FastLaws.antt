@@ -1,16 +1,17 @@
 -- What the fast path cites: `fast_facts`, what an answer of `fast_slot` says of the image; `fast-next`, that FindNext then comes to what
 -- handing out that slot's key does.
-use Rattle.std.specs.Prelude.{◌≡◌, ◌≤◌, ◌<◌, Result, Ok, Option, Some, None}
-use Rattle.base.specs.Kit.{refl, ◌∙◌, ap, Bool, true, false, and-eq-true_iff, List, ℕ, arith, leb-true, ltb-true, lt-leb, le-ltb, leb, ltb}
+use Rattle.std.specs.Prelude.{◌≡◌, ◌+◌, ◌≤◌, ◌<◌, Result, Ok, Option, Some, None}
+use Rattle.base.specs.Kit.{refl, ◌∙◌, Bool, true, false, and-eq-true_iff, List, ℕ, take, arith, leb-true, ltb-true, lt-leb, le-ltb, leb, ltb}
 use Rattle.base.specs.Pick.{pick}
 use Rattle.node.specs.Permuter.{size_of}
-use Rattle.node.specs.Layout.{permutation_at, ikey_at, live_at}
-use Rattle.moves.specs.Types.{Decline, Position, Slot, CursorPlace, NextKey, Out, Past, Side, Inside, AtEnd, SidePast, ScanCtx, Emit, Exhausted, Pass}
+use Rattle.node.specs.Layout.{permutation_at, ikey_at, live_at, value_at}
+use Rattle.moves.specs.Types.{Decline, Position, Slot, CursorPlace, HandedKey, Side, Inside, AtEnd, Past, ScanCtx}
 use Rattle.search.specs.Traversal.{leaf_there}
 use Rattle.search.specs.Helper.{slot_in}
 use Rattle.search.proofs.TraversalLaws.{not_second}
 use Rattle.moves.specs.Moves.{Taken, onward, is_storable, key_place, key_buf, outcome_on, hand_out, emit_key, take_key, take_slot, unless_dup, find_slot, find_next}
-use Rattle.moves.specs.CodeFastPath.{outcome_of, fast_slot, next_on, next_of, next_key}
+use Rattle.cursor.specs.RangeBound.{tested}
+use Rattle.moves.specs.CodeFastPath.{outcome_of, fast_slot, next_on, next_of}
 
 -- THE SLOT THAT IS FAST: its position is in use, its ikey is not below the cursor's, and its key is live and can be stored.
 pub record Fast (image : List ℕ) (leaf : ℕ) (p : Position) (k : CursorPlace) (s : Slot) : Type 0 where
@@ -49,29 +50,17 @@ module _ (image : List ℕ) (leaf : ℕ) (p : Position) (k : CursorPlace) where
       } in
       rw same at facts
 
--- FINDNEXT. What a key that is stored comes to, by the side on which the bound has it.
-unfoldable pub pass_of : ScanCtx → NextKey → Pass
-pass_of c (Out k value last) = record { outcome = Emit value last; ctx = onward c k k.ikey }
-pass_of c (Past k) = record { outcome = Exhausted; ctx = onward c k k.ikey }
-
--- the same as code has it, with the outcome of a key
-on_next : (side : Side) (k : CursorPlace) (value : ℕ) → outcome_of (next_on side k value) ≡ outcome_on side value
+-- FINDNEXT. What a key that is stored comes to, by the side on which the bound has it: as the code has it, and as its definition does.
+on_next : (side : Side) (value : ℕ) → outcome_of (next_on side value) ≡ outcome_on side value
 unfolding outcome_of outcome_on next_on
-on_next Inside k value = refl
-on_next AtEnd k value = refl
-on_next SidePast k value = refl
+on_next Inside value = refl
+on_next AtEnd value = refl
+on_next Past value = refl
 
-pub outcome_is : (image : List ℕ) (kind : ℕ) (bound buf : List ℕ) (c : ScanCtx) (s : Slot) (k : CursorPlace) (o : NextKey)
-    → o ≡ next_of image kind bound buf c.leaf s k → outcome_of o ≡ (hand_out image kind bound buf c s k).outcome
-unfolding next_of hand_out
-outcome_is image kind bound buf c s k o e = rw e (on_next _ k _)
-
-on_side : (c : ScanCtx) (side : Side) (k : CursorPlace) (value : ℕ)
-    → record { outcome = outcome_on side value; ctx = onward c k k.ikey } ≡ pass_of c (next_on side k value)
-unfolding outcome_on next_on pass_of
-on_side c Inside k value = refl
-on_side c AtEnd k value = refl
-on_side c SidePast k value = refl
+pub outcome_is : (image : List ℕ) (kind : ℕ) (bound buf : List ℕ) (leaf : ℕ) (s : Slot) (k : CursorPlace)
+    → outcome_of (next_of image kind bound buf leaf s k) ≡ outcome_on (tested kind bound (take (k.offset + k.len) buf)).side (value_at image leaf s)
+unfolding next_of
+outcome_is image kind bound buf leaf s k = on_next _ _
 
 module _ (image : List ℕ) (kind : ℕ) (bound buf : List ℕ) (c : ScanCtx) where
   -- the cursor and the buffer with a slot's key
@@ -99,33 +88,8 @@ module _ (image : List ℕ) (kind : ℕ) (bound buf : List ℕ) (c : ScanCtx) wh
     unfolding take_slot take_key emit_key pick
     takes-live = rw (facts.storable, facts.live)
 
-    hands_out_lem : hand_out image kind bound (buf_of s) c s (key_of s) ≡ pass_of c (next_key image kind bound buf c.leaf s c.cursor)
-    unfolding hand_out next_key next_of
-    hands_out_lem = on_side c _ _ _
-
-    -- o is what `hand_out` answered
-    pub fast-next : (o : NextKey) → o ≡ next_key image kind bound buf c.leaf s c.cursor → find_next image kind bound buf c ≡ record { pass = Ok (pass_of c o); buf = buf_of s }
-    fast-next o f = finds_new ∙ takes-live ∙ rw (hands_out_lem, ← f)
-
--- either answer's cursor has the slot's key
-abbrev pub place_in : NextKey → CursorPlace
-place_in (Out k value last) = k
-place_in (Past k) = k
-
-one_place : (side : Side) (k : CursorPlace) (value : ℕ) → place_in (next_on side k value) ≡ k
-unfolding next_on
-one_place Inside k value = refl
-one_place AtEnd k value = refl
-one_place SidePast k value = refl
-
-pub next_place : (image : List ℕ) (kind : ℕ) (bound buf : List ℕ) (leaf : ℕ) (s : Slot) (k : CursorPlace) (o : NextKey)
-    → o ≡ next_key image kind bound buf leaf s k → place_in o ≡ key_place image leaf s k
-unfolding next_key next_of
-next_place image kind bound buf leaf s k o e = ap place_in e ∙ one_place _ _ _
-
--- `store_key` and `hand_out`, one after the other
-pub stored_next : (image : List ℕ) (kind : ℕ) (bound buf buf' : List ℕ) (leaf : ℕ) (s : Slot) (k stored : CursorPlace) (o : NextKey)
-    → stored ≡ key_place image leaf s k → buf' ≡ key_buf image leaf s k.offset buf → o ≡ next_of image kind bound buf' leaf s stored
-    → o ≡ next_key image kind bound buf leaf s k
-unfolding next_key
-stored_next image kind bound buf buf' leaf s k stored o e f g = rw (← e, ← f) g
+    -- k and b are what `store_key` answered, o is what `hand_out` did
+    pub fast-next : (k : CursorPlace) (b : List ℕ) (o : Option HandedKey) → k ≡ key_of s → b ≡ buf_of s → o ≡ next_of image kind bound b c.leaf s k
+        → find_next image kind bound buf c ≡ record { pass = Ok (record { outcome = outcome_of o; ctx = onward c k k.ikey }); buf = b }
+    unfolding hand_out
+    fast-next k b o ek eb eo = finds_new ∙ takes-live ∙ rw (eo, outcome_is image kind bound b c.leaf s k, ek, eb) refl

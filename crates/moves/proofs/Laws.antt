@@ -6,7 +6,7 @@ use Rattle.base.proofs.Choice.{pick_ind}
 use Rattle.base.proofs.Declines.{then_ind}
 use Rattle.node.specs.Layout.{permutation_at}
 use Rattle.node.specs.Permuter.{size_of}
-use Rattle.moves.specs.Types.{Decline, Unreadable, Position, Slot, CursorPlace, Side, Inside, AtEnd, SidePast, StartMode, Started, At, EnterAt, ScanState, Start, Retry, FindNext, Down, Up, ScanCtx, Outcome, Continue, Push, Emit, Exhausted, Pass}
+use Rattle.moves.specs.Types.{Decline, Unreadable, Position, Slot, CursorPlace, Side, Inside, AtEnd, Past, StartMode, Started, At, EnterAt, ScanState, Start, Retry, FindNext, Down, Up, ScanCtx, Outcome, Continue, Push, Emit, Exhausted, Pass}
 use Rattle.cursor.specs.CursorKey.{shift, shift_clear, unshift, with_ikey, with_length}
 use Rattle.search.specs.Traversal.{reach}
 use Rattle.start.specs.Start.{start_position}
@@ -105,7 +105,7 @@ module _ (c : ScanCtx) (k : CursorPlace) (place : k.offset ≡ 8 * c.depth) (dee
     unfolding outcome_on onward
     on_side Inside value last = (refl, goes_on_lem last)
     on_side AtEnd value last = (refl, goes_on_lem last)
-    on_side SidePast value last = goes_on_lem last
+    on_side Past value last = goes_on_lem last
 
     emits : (image : List ℕ) (kind : ℕ) (bound buf : List ℕ) (s : Slot) → Good (Ok (emit_key image kind bound buf c s k))
     unfolding emit_key hand_out onward

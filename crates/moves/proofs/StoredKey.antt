@@ -1,14 +1,21 @@
 -- A key that can be stored: it fits the buffer, which keeps its length.
 use Rattle.std.specs.Prelude.{◌≡◌, ◌&&◌, ◌+◌, ◌≤◌, ◌<◌}
-use Rattle.base.specs.Kit.{true, and-eq-true_iff, List, ℕ, arith, leb-true, leb-false, eqb-true, lt-leb, leb, eqb, length, length-paste}
+use Rattle.base.specs.Kit.{true, and-eq-true_iff, List, ℕ, arith, leb-true, leb-false, eqb-true, lt-leb, leb, eqb, length, length-take, length-drop, length-paste}
 use Rattle.base.proofs.Choice.{pick_ind}
+use Rattle.key.specs.Part.{part}
 use Rattle.key.specs.Ikey.{digits, ikey_bytes}
 use Rattle.node.specs.Layout.{ikey_at, keylenx_at, suffix_at}
 use Rattle.moves.specs.Types.{Slot, CursorPlace}
 use Rattle.cursor.specs.CursorKey.{with_ikey, with_length, store_ikey, store_suffix}
-use Rattle.search.specs.Helper.{suffix_readable}
+use Rattle.search.specs.Helper.{suffix_readable, suffix_bytes}
 use Rattle.moves.specs.Moves.{is_storable, key_place, key_buf}
-use Rattle.moves.proofs.Answers.{suffix-length}
+use Rattle.search.proofs.Answers.{suffix-in}
+
+-- a suffix that may be read has as many bytes as it says
+pub suffix_length : (image : List ℕ) (leaf : ℕ) (s : Slot) → suffix_readable image leaf s ≡ true
+    → length (suffix_bytes image leaf s) ≡ (suffix_at image leaf s).len
+unfolding suffix_bytes part
+suffix_length image leaf s h = simp (length-take, length-drop) (omega (arith, suffix-in image leaf s h))
 
 -- the buffer keeps its length
 pub stored : (buf : List ℕ) (offset ikey : ℕ) → length buf ≡ 256 → offset ≤ 248 → length (store_ikey buf offset ikey) ≡ 256
@@ -22,7 +29,7 @@ stored-suffix buf offset suffix l h = rw (length-paste buf (offset + 8) suffix (
 
 module _ (image : List ℕ) (leaf : ℕ) (s : Slot) where
   -- one that does not end in this layer has a suffix that can be read and fits
-  pub storable-suffix : (offset : ℕ) → is_storable image leaf s offset ≡ true → 8 < keylenx_at image leaf s
+  storable-suffix : (offset : ℕ) → is_storable image leaf s offset ≡ true → 8 < keylenx_at image leaf s
       → (keylenx_at image leaf s ≡ 64) × (suffix_readable image leaf s ≡ true) × (offset + 8 + (suffix_at image leaf s).len ≤ 256)
   unfolding is_storable
   storable-suffix offset h g =
@@ -44,4 +51,4 @@ module _ (image : List ℕ) (leaf : ℕ) (s : Slot) where
     key-buf-length buf l =
         let b = stored buf k.offset (ikey_at image leaf s) l low in
         pick_ind (λ (x : List ℕ). length x ≡ 256) _ (λ t. b)
-        (λ f. let g = storable-suffix k.offset h (leb-false _ _ f) in stored-suffix _ _ _ b (rw (suffix-length image leaf s g.1) g.2))
+        (λ f. let g = storable-suffix k.offset h (leb-false _ _ f) in stored-suffix _ _ _ b (rw (suffix_length image leaf s g.1) g.2))

@@ -8,7 +8,7 @@ use Rattle.cursor.specs.RangeBound.{tested, is_last, at_end}
 use Rattle.search.specs.Traversal.{reach}
 use Rattle.search.specs.Helper.{lower_with_suffix}
 use Rattle.start.specs.Start.{start_position}
-use Rattle.moves.specs.Types.{Decline, Slot, CursorPlace, Side, Inside, AtEnd, SidePast, StartMode, Started, At, EnterAt, ScanState, Start, Retry, FindNext, Down, Up, ScanCtx, Outcome, Continue, Push, Emit, Exhausted, Pass}
+use Rattle.moves.specs.Types.{Decline, Slot, CursorPlace, Side, Inside, AtEnd, Past, StartMode, Started, At, EnterAt, ScanState, Start, Retry, FindNext, Down, Up, ScanCtx, Outcome, Continue, Push, Emit, Exhausted, Pass}
 use Rattle.moves.proofs.Answers.{taken_ind}
 use Rattle.moves.specs.Moves.{Taken, kept, standing, begin, start_in, find_start, retry_in, find_retry, handle_down, handle_up, advance_leaf, onward, outcome_on, hand_out, emit_key, take_key, take_layer, take_slot, unless_dup, back_to_retry, find_slot, find_next, pass_in}
 
@@ -32,7 +32,7 @@ module _ (kind : ℕ) (bound : List ℕ) where
   unfolding outcome_on at_end is_last
   on_side k buf value Inside e = rw e
   on_side k buf value AtEnd e = rw e
-  on_side k buf value SidePast e = tt
+  on_side k buf value Past e = tt
 
   module _ (image : List ℕ) (c : ScanCtx) where
     emits : (buf : List ℕ) (s : Slot) (k : CursorPlace) → Passes buf (Ok (emit_key image kind bound buf c s k))

@@ -6,7 +6,7 @@ use Rattle.base.specs.Pick.{pick}
 use Rattle.base.specs.Decline.{and_then}
 use Rattle.node.specs.Permuter.{size_of}
 use Rattle.node.specs.Layout.{permutation_at, ikey_at, keylenx_at, value_at, live_at, suffix_at, next_at}
-use Rattle.moves.specs.Types.{Decline, Unreadable, Ordering, Less, Equal, Greater, Position, Slot, CursorPlace, Side, Inside, AtEnd, SidePast, StartMode, Started, At, EnterAt, ScanState, Start, Retry, FindNext, Down, Up, ScanCtx, Outcome, Continue, Push, Emit, Exhausted, Pass}
+use Rattle.moves.specs.Types.{Decline, Unreadable, Ordering, Less, Equal, Greater, Position, Slot, CursorPlace, Side, Inside, AtEnd, Past, StartMode, Started, At, EnterAt, ScanState, Start, Retry, FindNext, Down, Up, ScanCtx, Outcome, Continue, Push, Emit, Exhausted, Pass}
 use Rattle.cursor.specs.CursorKey.{shift, shift_clear, unshift, has_suffix, compare_slot, with_ikey, with_length, store_ikey, store_suffix}
 use Rattle.cursor.specs.RangeBound.{tested}
 use Rattle.search.specs.Traversal.{leaf_there, reach}
@@ -130,7 +130,7 @@ key_buf image leaf s offset buf =
 unfoldable pub outcome_on : Side → ℕ → Outcome
 outcome_on Inside value = Emit value false
 outcome_on AtEnd value = Emit value true
-outcome_on SidePast value = Exhausted
+outcome_on Past value = Exhausted
 
 -- The cursor `k` and the buffer hold the key.
 unfoldable pub hand_out : List ℕ → ℕ → List ℕ → List ℕ → ScanCtx → Slot → CursorPlace → Pass

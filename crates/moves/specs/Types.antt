@@ -5,7 +5,7 @@ pub use Rattle.std.specs.declared.cmp.Ordering.{Ordering}
 pub use Rattle.std.specs.declared.cmp.Ordering.TheVariants.{Less, Equal, Greater}
 pub use Rattle.cursor.specs.declared.cursor_key.CursorPlace.{CursorPlace}
 pub use Rattle.cursor.specs.declared.range_bound.Side.{Side}
-pub use Rattle.cursor.specs.declared.range_bound.Side.TheVariants.{Inside, AtEnd, Past as SidePast}
+pub use Rattle.cursor.specs.declared.range_bound.Side.TheVariants.{Inside, AtEnd, Past}
 pub use Rattle.cursor.specs.declared.range_bound.StartMode.{StartMode}
 pub use Rattle.cursor.specs.declared.range_bound.StartMode.TheVariants.{From}
 pub use Rattle.node.specs.declared.permuter.Position.{Position}
@@ -18,5 +18,4 @@ pub use Rattle.moves.specs.declared.context.Pass.{Pass}
 pub use Rattle.moves.specs.declared.context.ScanCtx.{ScanCtx}
 pub use Rattle.moves.specs.declared.context.ScanState.{ScanState}
 pub use Rattle.moves.specs.declared.context.ScanState.TheVariants.{Start, Retry, FindNext, Down, Up}
-pub use Rattle.moves.specs.declared.fast_path.NextKey.{NextKey}
-pub use Rattle.moves.specs.declared.fast_path.NextKey.TheVariants.{Out, Past}
+pub use Rattle.moves.specs.declared.fast_path.HandedKey.{HandedKey}

@@ -18,7 +18,8 @@ pub enum ScanState {
 }
 
 // `depth` is how many of the stack's entries are in use; `last` is the Rust's last_ikey, `dup` its needs_duplicate_check. State and
-// flag stand apart: side by side they are copied as one word and taken apart in every move.
+// flag stand apart: side by side they are copied as one word and taken apart in every move. `last` is 0 where there is none: no ikey is below
+// that, so that no test would open an Option. `dup` is no part of FindNext: it is kept past the leaf's end and set by Retry and Up.
 #[derive(Clone, Copy)]
 pub struct ScanCtx {
     pub root: u64,
@@ -60,7 +61,8 @@ pub fn in_layer(c: ScanCtx, root: u64, leaf: u64, depth: usize) -> ScanCtx
     }
 }
 
-// The walk stands where a search came to, to find what is there.
+// The walk stands where a search came to, to find what is there: each argument is a field that this sets.
+#[tactic(auto, unfolding(crate::specs::Moves::standing))]
 pub fn stand(
     c: ScanCtx,
     leaf: u64,
@@ -86,6 +88,7 @@ pub fn stand(
 }
 
 // The walk one position on, with the key that the cursor has come to.
+#[tactic(auto, unfolding(crate::specs::Moves::onward))]
 pub fn go_on(c: ScanCtx, cursor: CursorPlace, last: u64) -> ScanCtx
     requires { c.position.0 ≤ 15 }
     ensures { result ≡ onward c cursor last }

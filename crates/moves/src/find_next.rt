@@ -1,265 +1,216 @@
 // FindNext (the Rust's find_next and find_next_with_dup_check): the slot at the walk's position, or the leaf after its last.
-ghost use Rattle.std.specs.Prelude.{◌≡◌, ◌+◌, ◌≤◌, ◌<◌, Ok};
+ghost use Rattle.std.specs.Prelude.{◌≡◌, ◌+◌, ◌≤◌, Ok};
 ghost use Rattle.base.specs.Kit.{true};
-ghost use Rattle.node.specs.Layout.{InLeaf, InSlot};
 ghost use Rattle.search.specs.Traversal.{leaf_there};
 ghost use Rattle.moves.specs.CodeFastPath.{outcome_of};
 ghost use Rattle.moves.specs.Moves.{advance_leaf, dup_level, dup_of, dup_due, is_storable, take_key, take_layer, take_slot, find_slot, find_next};
 
 use crate::context::{Outcome, Pass, ScanCtx, ScanState};
-use crate::fast_path::NextKey;
+use crate::fast_path::HandedKey;
+use crate::walking::Walking;
 use crate::{context, fast_path, stored_key};
 use base::Decline;
+use cursor::cursor_key::CursorReader;
 use cursor::range_bound::End;
-use node::leaf::LeafReader;
-use node::permuter::Slot;
-use node::{leaf, permuter};
+use node::leaf::{LeafReader, SlotKind, SlotReader};
+use node::permuter;
 use search::{helper, traversal};
 use std::cmp::Ordering;
 
-// Past the last slot: the next leaf, or Up where there is none.
-#[tactic(auto, unfolding(crate::specs::Moves::advance_leaf, base::specs::Decline::and_then, base::specs::Pick::pick))]
-fn advance_leaf(image: &[u8], buf: &[u8; 256], c: ScanCtx) -> Result<Pass, Decline>
-    requires in_leaf { InLeaf image.now c.leaf }
-    requires len_bound { c.cursor.offset + c.cursor.len ≤ 256 }
-    ensures { result ≡ advance_leaf image.now buf.now c }
+// A slot of the leaf that a walk stands in, and the walk, whose numbers are as `find_next` asks for them.
+#[derive(Clone, Copy)]
+struct AtSlot<'a> {
+    slot: SlotReader<'a>,
+    ctx: ScanCtx,
+    ghost in_leaf: { slot.leaf.at ≡ ctx.leaf },
+    ghost position_bound: { ctx.position.0 ≤ 15 },
+    ghost offset_bound: { ctx.cursor.offset ≤ 248 },
+    ghost len_bound: { ctx.cursor.offset + ctx.cursor.len ≤ 256 },
+}
+
+// A live key is handed out, or none is, past the bound: there the walk ends.
+#[tactic(auto, unfolding(crate::specs::CodeFastPath::outcome_of))]
+fn outcome_of(handed: Option<HandedKey>) -> Outcome
+    ensures { result ≡ outcome_of handed }
 {
-    let leaf = LeafReader {
-        image,
-        at: c.leaf as usize,
-    };
-    let next = leaf.next();
-    if next == 0 {
-        return Ok(Pass {
-            outcome: Outcome::Continue,
+    match handed {
+        Some(HandedKey { value, last }) => Outcome::Emit { value, last },
+        None => Outcome::Exhausted,
+    }
+}
+
+impl<'a> AtSlot<'a> {
+    // Whether the cursor has come to the slot or passed it, where ikey and length leave the two level.
+    #[tactic(auto, unfolding(crate::specs::Moves::dup_by_suffix, base::specs::Decline::and_then, base::specs::Pick::pick))]
+    fn duplicate_by_suffix(self, buf: &[u8; 256]) -> Result<bool, Decline>
+        ensures { result ≡ dup_level self.entry.slot.leaf.image.now buf.now self.entry.ctx self.entry.slot.slot }
+    {
+        let place = self.ctx.cursor;
+        if !place.has_suffix() {
+            return Ok(true);
+        }
+        let order = helper::compare_stored(self.slot, CursorReader { place, buf })?;
+        Ok(!matches!(order, Some(Ordering::Less)))
+    }
+
+    // Whether the cursor has come to the slot or passed it.
+    #[tactic(auto, unfolding(crate::specs::Moves::dup_of, search::specs::Helper::by_order))]
+    fn duplicate_at(self, buf: &[u8; 256]) -> Result<bool, Decline>
+        ensures { result ≡ dup_of self.entry.slot.leaf.image.now buf.now self.entry.ctx self.entry.slot.slot }
+    {
+        let keylenx = usize::from(self.slot.keylenx());
+        match self.ctx.cursor.compare(self.slot.ikey(), keylenx) {
+            Ordering::Less => Ok(false),
+            Ordering::Equal => self.duplicate_by_suffix(buf),
+            Ordering::Greater => Ok(true),
+        }
+    }
+
+    // The same where the check is due; else the slot is new.
+    #[tactic(auto, unfolding(base::specs::Pick::pick))]
+    fn duplicate_due(self, buf: &[u8; 256]) -> Result<bool, Decline>
+        ensures { result ≡ dup_due self.entry.slot.leaf.image.now buf.now self.entry.ctx self.entry.slot.slot }
+    {
+        if !self.ctx.dup {
+            return Ok(false);
+        }
+        self.duplicate_at(buf)
+    }
+
+    // A key that ends in this layer or goes on in its suffix: stored, and then passed over where it is dead, out where it is in bounds, the
+    // last where it is the included end, and else the end.
+    #[tactic(auto, using(crate::proofs::StoredKey::key_fits, crate::proofs::FastLaws::outcome_is), unfolding(crate::specs::Moves::take_key, crate::specs::Moves::emit_key, crate::specs::Moves::hand_out, base::specs::Pick::pick))]
+    fn take_key(self, end: End, buf: &mut [u8; 256]) -> Pass
+        requires { is_storable self.slot.leaf.image.now self.slot.leaf.at self.slot.slot self.ctx.cursor.offset ≡ true }
+        ensures { (Ok result ≡ (take_key self.entry.slot.leaf.image.now end.entry.kind end.entry.key.now buf.old self.entry.ctx self.entry.slot.slot).pass) × (buf.new ≡ (take_key self.entry.slot.leaf.image.now end.entry.kind end.entry.key.now buf.old self.entry.ctx self.entry.slot.slot).buf) }
+    {
+        let k = stored_key::store_key(self.slot, buf, self.ctx.cursor);
+        if !self.slot.live() {
+            return Pass {
+                outcome: Outcome::Continue,
+                ctx: context::go_on(self.ctx, k, self.ctx.last),
+            };
+        }
+        Pass {
+            outcome: outcome_of(fast_path::hand_out(self.slot, end, buf, k)),
+            ctx: context::go_on(self.ctx, k, k.ikey),
+        }
+    }
+
+    // A layer: its ikey in the cursor; the loop stacks root and leaf.
+    #[tactic(auto, unfolding(crate::specs::Moves::take_layer))]
+    fn take_layer(self, buf: &mut [u8; 256]) -> Pass
+        ensures { (Ok result ≡ (take_layer self.entry.slot.leaf.image.now buf.old self.entry.ctx self.entry.slot.slot).pass) × (buf.new ≡ (take_layer self.entry.slot.leaf.image.now buf.old self.entry.ctx self.entry.slot.slot).buf) }
+    {
+        let cursor = self.ctx.cursor.assign_store_ikey(buf, self.slot.ikey());
+        Pass {
+            outcome: Outcome::Push(self.slot.value()),
             ctx: ScanCtx {
-                state: ScanState::Up,
+                cursor,
+                state: ScanState::Down,
                 dup: false,
-                ..c
+                ..self.ctx
             },
-        });
+        }
     }
-    if !traversal::is_leaf_there(image, next) {
-        return Err(Decline::Unreadable);
+
+    // A slot that is new to the walk.
+    #[tactic(auto, using(std::proofs::lemmas::Bool::Decides::nat_tests), unfolding(node::specs::Layout::slot_kind, crate::specs::Moves::take_slot, crate::specs::Moves::kept, base::specs::Pick::pick))]
+    fn take_slot(self, end: End, buf: &mut [u8; 256]) -> Result<Pass, Decline>
+        ensures { (result ≡ (take_slot self.entry.slot.leaf.image.now end.entry.kind end.entry.key.now buf.old self.entry.ctx self.entry.slot.slot).pass) × (buf.new ≡ (take_slot self.entry.slot.leaf.image.now end.entry.kind end.entry.key.now buf.old self.entry.ctx self.entry.slot.slot).buf) }
+    {
+        if stored_key::is_storable(self.slot, self.ctx.cursor.offset) {
+            return Ok(self.take_key(end, buf));
+        }
+        if self.slot.kind() != SlotKind::Layer || 31 <= self.ctx.depth {
+            return Err(Decline::Unreadable);
+        }
+        Ok(self.take_layer(buf))
     }
-    let position = helper::lower_with_suffix(
-        LeafReader {
-            image,
+
+    // The slot at the walk's position. An ikey below the last one handed out makes the walk look for its place anew.
+    #[tactic(auto, unfolding(crate::specs::Moves::find_slot, crate::specs::Moves::unless_dup, crate::specs::Moves::back_to_retry, crate::specs::Moves::kept, base::specs::Pick::pick))]
+    fn find_slot(self, end: End, buf: &mut [u8; 256]) -> Result<Pass, Decline>
+        ensures { (result ≡ (find_slot self.entry.slot.leaf.image.now end.entry.kind end.entry.key.now buf.old self.entry.ctx self.entry.slot.slot).pass) × (buf.new ≡ (find_slot self.entry.slot.leaf.image.now end.entry.kind end.entry.key.now buf.old self.entry.ctx self.entry.slot.slot).buf) }
+    {
+        let c = self.ctx;
+        if self.slot.ikey() < c.last {
+            return Ok(Pass {
+                outcome: Outcome::Continue,
+                ctx: ScanCtx {
+                    state: ScanState::Retry,
+                    dup: false,
+                    ..c
+                },
+            });
+        }
+        if self.duplicate_due(buf)? {
+            return Ok(Pass {
+                outcome: Outcome::Continue,
+                ctx: context::go_on(c, c.cursor, c.last),
+            });
+        }
+        self.take_slot(end, buf)
+    }
+}
+
+impl<'a> Walking<'a> {
+    // Past the last slot: the next leaf, or Up where there is none.
+    #[tactic(auto, using(search::proofs::Laws::leaf_there_lem), unfolding(crate::specs::Moves::advance_leaf, base::specs::Decline::and_then, base::specs::Pick::pick))]
+    fn advance_leaf(self, leaf: LeafReader, buf: &[u8; 256]) -> Result<Pass, Decline>
+        requires { leaf.at ≡ self.ctx.leaf }
+        ensures { result ≡ advance_leaf leaf.entry.image.now buf.now self.entry.ctx }
+    {
+        let c = self.ctx;
+        let next = leaf.next();
+        // 0 is the image's word for no leaf, and is tested here alone.
+        if next == 0 {
+            return Ok(Pass {
+                outcome: Outcome::Continue,
+                ctx: ScanCtx {
+                    state: ScanState::Up,
+                    dup: false,
+                    ..c
+                },
+            });
+        }
+        if !traversal::is_leaf_there(leaf.image, next) {
+            return Err(Decline::Unreadable);
+        }
+        let behind = LeafReader {
+            image: leaf.image,
             at: next as usize,
-        },
-        c.cursor,
-        buf,
-    )?;
-    Ok(context::stand(c, next, c.cursor, false, c.last, position))
-}
-
-// Whether the cursor has come to a slot or passed it, where ikey and length leave the two level.
-#[tactic(auto, unfolding(base::specs::Decline::and_then, base::specs::Pick::pick))]
-fn duplicate_by_suffix(
-    image: &[u8],
-    buf: &[u8; 256],
-    c: ScanCtx,
-    slot: Slot,
-) -> Result<bool, Decline>
-    requires in_slot { InSlot image.now c.leaf slot }
-    requires len_bound { c.cursor.offset + c.cursor.len ≤ 256 }
-    ensures { result ≡ dup_level image.now buf.now c slot }
-{
-    if !c.cursor.has_suffix() {
-        return Ok(true);
-    }
-    let leaf = LeafReader {
-        image,
-        at: c.leaf as usize,
-    };
-    let order = helper::compare_stored(leaf, c.cursor, buf, slot)?;
-    Ok(order != Some(Ordering::Less))
-}
-
-// Whether the cursor has come to a slot or passed it.
-fn duplicate_at(image: &[u8], buf: &[u8; 256], c: ScanCtx, slot: Slot) -> Result<bool, Decline>
-    requires in_slot { InSlot image.now c.leaf slot }
-    requires len_bound { c.cursor.offset + c.cursor.len ≤ 256 }
-    ensures { result ≡ dup_of image.now buf.now c slot }
-{
-    let leaf = LeafReader {
-        image,
-        at: c.leaf as usize,
-    };
-    let keylenx = leaf.keylenx(slot);
-    match c.cursor.compare(leaf.ikey(slot), usize::from(keylenx)) {
-        Ordering::Less => Ok(false),
-        Ordering::Equal => duplicate_by_suffix(image, buf, c, slot),
-        Ordering::Greater => Ok(true),
-    }
-}
-
-// The same where the check is due; else the slot is new.
-fn duplicate_due(image: &[u8], buf: &[u8; 256], c: ScanCtx, slot: Slot) -> Result<bool, Decline>
-    requires in_slot { InSlot image.now c.leaf slot }
-    requires len_bound { c.cursor.offset + c.cursor.len ≤ 256 }
-    ensures { result ≡ dup_due image.now buf.now c slot }
-{
-    if !c.dup {
-        return Ok(false);
-    }
-    duplicate_at(image, buf, c, slot)
-}
-
-// What a live key comes to, by the bound.
-fn outcome_of(next: NextKey) -> Outcome
-    ensures { result ≡ outcome_of next }
-{
-    match next {
-        NextKey::Out { k: _, value, last } => Outcome::Emit { value, last },
-        NextKey::Past(_) => Outcome::Exhausted,
-    }
-}
-
-// A key that ends in this layer or goes on in its suffix: stored, and then passed over where it is dead, out where it is in bounds, the last
-// where it is the included end, and else the end.
-fn take_key(image: &[u8], end: End, buf: &mut [u8; 256], c: ScanCtx, slot: Slot) -> Pass
-    requires in_slot { InSlot image.now c.leaf slot }
-    requires position_bound { c.position.0 ≤ 15 }
-    requires offset_bound { c.cursor.offset ≤ 248 }
-    requires offset_value { is_storable image.now c.leaf slot c.cursor.offset ≡ true }
-    ensures { (Ok result ≡ (take_key image.now end.entry.kind end.entry.key.now buf.old c slot).pass) × (buf.new ≡ (take_key image.now end.entry.kind end.entry.key.now buf.old c slot).buf) }
-{
-    let leaf = LeafReader {
-        image,
-        at: c.leaf as usize,
-    };
-    let k = stored_key::store_key(leaf, slot, buf, c.cursor);
-    if !leaf.live(slot) {
-        return Pass {
-            outcome: Outcome::Continue,
-            ctx: context::go_on(c, k, c.last),
         };
+        let position = helper::lower_with_suffix(behind, self.cursor(buf))?;
+        Ok(context::stand(c, next, c.cursor, false, c.last, position))
     }
-    Pass {
-        outcome: outcome_of(fast_path::hand_out(leaf, end, buf, slot, k)),
-        ctx: context::go_on(c, k, k.ikey),
-    }
-}
 
-// A layer: its ikey in the cursor; the loop stacks root and leaf.
-fn take_layer(image: &[u8], buf: &mut [u8; 256], c: ScanCtx, slot: Slot) -> Pass
-    requires in_slot { InSlot image.now c.leaf slot }
-    requires offset_bound { c.cursor.offset ≤ 248 }
-    ensures { (Ok result ≡ (take_layer image.now buf.old c slot).pass) × (buf.new ≡ (take_layer image.now buf.old c slot).buf) }
-{
-    let leaf = LeafReader {
-        image,
-        at: c.leaf as usize,
-    };
-    let stored = c.cursor.assign_store_ikey(buf, leaf.ikey(slot));
-    Pass {
-        outcome: Outcome::Push(leaf.value(slot)),
-        ctx: ScanCtx {
-            cursor: stored,
-            state: ScanState::Down,
-            dup: false,
-            ..c
-        },
+    // FindNext, with the duplicate check where it is due. `tested`: see `one_move`.
+    #[tactic(auto, using(search::proofs::Laws::leaf_there_lem), unfolding(search::specs::CodeSlots::usable_slot, crate::specs::Moves::find_next, crate::specs::Moves::kept, base::specs::Pick::pick))]
+    pub fn find_next(self, end: End, buf: &mut [u8; 256], tested: bool) -> Result<Pass, Decline>
+        requires position_bound { self.ctx.position.0 ≤ 15 }
+        requires offset_bound { self.ctx.cursor.offset ≤ 248 }
+        requires leaf_value { tested ≡ true → leaf_there self.image.now self.ctx.leaf ≡ true }
+        ensures { (result ≡ (find_next self.entry.image.now end.entry.kind end.entry.key.now buf.old self.entry.ctx).pass) × (buf.new ≡ (find_next self.entry.image.now end.entry.kind end.entry.key.now buf.old self.entry.ctx).buf) }
+    {
+        let c = self.ctx;
+        if !is_there(self.image, c.leaf, tested) {
+            return Err(Decline::Unreadable);
+        }
+        let leaf = LeafReader {
+            image: self.image,
+            at: c.leaf as usize,
+        };
+        let permutation = leaf.permutation();
+        if permuter::size(permutation) <= c.position.0 {
+            return self.advance_leaf(leaf, buf);
+        }
+        let slot = SlotReader {
+            leaf,
+            slot: helper::slot_at(permutation, c.position)?,
+        };
+        AtSlot { slot, ctx: c }.find_slot(end, buf)
     }
-}
-
-// A slot that is new to the walk.
-fn take_slot(
-    image: &[u8],
-    end: End,
-    buf: &mut [u8; 256],
-    c: ScanCtx,
-    slot: Slot,
-) -> Result<Pass, Decline>
-    requires in_slot { InSlot image.now c.leaf slot }
-    requires position_bound { c.position.0 ≤ 15 }
-    requires offset_bound { c.cursor.offset ≤ 248 }
-    ensures { (result ≡ (take_slot image.now end.entry.kind end.entry.key.now buf.old c slot).pass) × (buf.new ≡ (take_slot image.now end.entry.kind end.entry.key.now buf.old c slot).buf) }
-{
-    let leaf = LeafReader {
-        image,
-        at: c.leaf as usize,
-    };
-    if stored_key::is_storable(leaf, slot, c.cursor.offset) {
-        return Ok(take_key(image, end, buf, c, slot));
-    }
-    if leaf.keylenx(slot) < leaf::LAYER_KEYLENX {
-        return Err(Decline::Unreadable);
-    }
-    if 31 <= c.depth {
-        return Err(Decline::Unreadable);
-    }
-    Ok(take_layer(image, buf, c, slot))
-}
-
-// The slot at the walk's position. An ikey below the last one handed out makes the walk look for its place anew.
-#[tactic(auto, unfolding(crate::specs::Moves::find_slot, crate::specs::Moves::unless_dup, crate::specs::Moves::back_to_retry, crate::specs::Moves::kept, base::specs::Pick::pick))]
-fn find_slot(
-    image: &[u8],
-    end: End,
-    buf: &mut [u8; 256],
-    c: ScanCtx,
-    slot: Slot,
-) -> Result<Pass, Decline>
-    requires in_slot { InSlot image.now c.leaf slot }
-    requires position_bound { c.position.0 ≤ 15 }
-    requires offset_bound { c.cursor.offset ≤ 248 }
-    requires len_bound { c.cursor.offset + c.cursor.len ≤ 256 }
-    ensures { (result ≡ (find_slot image.now end.entry.kind end.entry.key.now buf.old c slot).pass) × (buf.new ≡ (find_slot image.now end.entry.kind end.entry.key.now buf.old c slot).buf) }
-{
-    let leaf = LeafReader {
-        image,
-        at: c.leaf as usize,
-    };
-    if leaf.ikey(slot) < c.last {
-        return Ok(Pass {
-            outcome: Outcome::Continue,
-            ctx: ScanCtx {
-                state: ScanState::Retry,
-                dup: false,
-                ..c
-            },
-        });
-    }
-    let dup = duplicate_due(image, buf, c, slot)?;
-    if dup {
-        return Ok(Pass {
-            outcome: Outcome::Continue,
-            ctx: context::go_on(c, c.cursor, c.last),
-        });
-    }
-    take_slot(image, end, buf, c, slot)
-}
-
-// FindNext, with the duplicate check where it is due. `tested` tells that this move has tested the leaf's version.
-#[tactic(auto, unfolding(crate::specs::Moves::find_next, crate::specs::Moves::find_slot, crate::specs::Moves::kept, base::specs::Pick::pick))]
-pub fn find_next(
-    image: &[u8],
-    end: End,
-    buf: &mut [u8; 256],
-    c: ScanCtx,
-    tested: bool,
-) -> Result<Pass, Decline>
-    requires position_bound { c.position.0 ≤ 15 }
-    requires offset_bound { c.cursor.offset ≤ 248 }
-    requires len_bound { c.cursor.offset + c.cursor.len ≤ 256 }
-    requires leaf_value { tested ≡ true → leaf_there image.now c.leaf ≡ true }
-    ensures { (result ≡ (find_next image.now end.entry.kind end.entry.key.now buf.old c).pass) × (buf.new ≡ (find_next image.now end.entry.kind end.entry.key.now buf.old c).buf) }
-{
-    if !is_there(image, c.leaf, tested) {
-        return Err(Decline::Unreadable);
-    }
-    let leaf = LeafReader {
-        image,
-        at: c.leaf as usize,
-    };
-    let permutation = leaf.permutation();
-    if permuter::size(permutation) <= c.position.0 {
-        return advance_leaf(image, buf, c);
-    }
-    let slot = helper::slot_at(permutation, c.position)?;
-    find_slot(image, end, buf, c, slot)
 }
 
 // Whether a leaf stands there, where this move may have tested it.

@@ -1,90 +1,81 @@
 // Start and Retry: from a layer's root to the first slot that is not passed over.
-ghost use Rattle.std.specs.Prelude.{◌≡◌, ◌+◌, ◌≤◌, ◌<◌, Ok};
-ghost use Rattle.node.specs.Layout.{InLeaf, InSlot};
+ghost use Rattle.std.specs.Prelude.{◌≡◌, ◌<◌, Ok};
 ghost use Rattle.moves.specs.Types.{EnterAt};
 ghost use Rattle.moves.specs.Moves.{begin, start_in, find_start, find_retry};
 
 use crate::context;
 use crate::context::{Outcome, Pass, ScanCtx, ScanState};
+use crate::walking::Walking;
 use base::Decline;
 use cursor::range_bound::StartMode;
-use node::leaf::LeafReader;
-use node::permuter::Slot;
+use node::leaf::{LeafReader, SlotReader};
 use search::{helper, traversal};
 use start::Started;
 
-// Start enters the layer of a slot that the cursor's own bytes lead into: its ikey in the cursor; the loop stacks root and leaf.
-fn lead_in(leaf: LeafReader, buf: &mut [u8; 256], c: ScanCtx, slot: Slot, mode: StartMode) -> Pass
-    requires in_slot { InSlot leaf.image.now leaf.at slot }
-    requires lt_len { 8 < c.cursor.len }
-    requires len_bound { c.cursor.offset + c.cursor.len ≤ 256 }
-    ensures { (Ok result ≡ (begin mode leaf.entry.image.now buf.old c leaf.entry.at (EnterAt slot)).pass) × (buf.new ≡ (begin mode leaf.entry.image.now buf.old c leaf.entry.at (EnterAt slot)).buf) }
-{
-    let k = c.cursor;
-    let rest = k.shift(buf);
-    let _stored = k.assign_store_ikey(buf, k.ikey);
-    Pass {
-        outcome: Outcome::Push(leaf.value(slot)),
-        ctx: ScanCtx {
-            leaf: leaf.at as u64,
-            cursor: rest,
-            state: ScanState::Start(mode),
-            ..c
-        },
+impl<'a> Walking<'a> {
+    // Start enters the layer of a slot that the cursor's own bytes lead into: its ikey in the cursor; the loop stacks root and leaf.
+    #[tactic(auto, unfolding(crate::specs::Moves::begin))]
+    fn lead_in(self, s: SlotReader, buf: &mut [u8; 256], mode: StartMode) -> Pass
+        requires { 8 < self.ctx.cursor.len }
+        ensures { (Ok result ≡ (begin mode s.entry.leaf.image.now buf.old self.entry.ctx s.entry.leaf.at (EnterAt s.entry.slot)).pass) × (buf.new ≡ (begin mode s.entry.leaf.image.now buf.old self.entry.ctx s.entry.leaf.at (EnterAt s.entry.slot)).buf) }
+    {
+        let k = self.ctx.cursor;
+        let rest = self.cursor(buf).shift();
+        let _stored = k.assign_store_ikey(buf, k.ikey);
+        Pass {
+            outcome: Outcome::Push(s.value()),
+            ctx: ScanCtx {
+                leaf: s.leaf.at as u64,
+                cursor: rest,
+                state: ScanState::Start(mode),
+                ..self.ctx
+            },
+        }
     }
-}
 
-// Start in the leaf that the descent came to. No duplicate check.
-#[tactic(auto, unfolding(crate::specs::Moves::start_in, crate::specs::Moves::begin, crate::specs::Moves::kept, crate::specs::Moves::taken_on))]
-fn start_in(
-    leaf: LeafReader,
-    buf: &mut [u8; 256],
-    c: ScanCtx,
-    mode: StartMode,
-) -> Result<Pass, Decline>
-    requires in_leaf { InLeaf leaf.image.now leaf.at }
-    requires len_bound { c.cursor.offset + c.cursor.len ≤ 256 }
-    ensures { (result ≡ (start_in mode leaf.entry.image.now buf.old c leaf.entry.at).pass) × (buf.new ≡ (start_in mode leaf.entry.image.now buf.old c leaf.entry.at).buf) }
-{
-    match start::start_position(mode, leaf, c.cursor, buf)? {
-        Started::At(p) => Ok(context::stand(c, leaf.at as u64, c.cursor, c.dup, c.last, p)),
-        Started::Enter(slot) => Ok(lead_in(leaf, buf, c, slot, mode)),
+    // Start in the leaf that the descent came to. No duplicate check.
+    #[tactic(auto, using(crate::proofs::Answers::enters), unfolding(crate::specs::Moves::start_in, crate::specs::Moves::begin, crate::specs::Moves::kept, crate::specs::Moves::taken_on))]
+    fn start_in(
+        self,
+        leaf: LeafReader,
+        buf: &mut [u8; 256],
+        mode: StartMode,
+    ) -> Result<Pass, Decline>
+        ensures { (result ≡ (start_in mode leaf.entry.image.now buf.old self.entry.ctx leaf.entry.at).pass) × (buf.new ≡ (start_in mode leaf.entry.image.now buf.old self.entry.ctx leaf.entry.at).buf) }
+    {
+        let c = self.ctx;
+        match start::start_position(mode, leaf, self.cursor(buf))? {
+            Started::At(p) => Ok(context::stand(c, leaf.at as u64, c.cursor, c.dup, c.last, p)),
+            Started::Enter(slot) => Ok(self.lead_in(SlotReader { leaf, slot }, buf, mode)),
+        }
     }
-}
 
-// Start: the first slot that is not passed over, or the layer that the cursor's bytes lead into.
-#[tactic(auto, unfolding(crate::specs::Moves::find_start, crate::specs::Moves::kept, crate::specs::Moves::taken_on))]
-pub fn find_start(
-    image: &[u8],
-    buf: &mut [u8; 256],
-    c: ScanCtx,
-    mode: StartMode,
-) -> Result<Pass, Decline>
-    requires { c.cursor.offset + c.cursor.len ≤ 256 }
-    ensures { (result ≡ (find_start mode image.now buf.old c).pass) × (buf.new ≡ (find_start mode image.now buf.old c).buf) }
-{
-    let leaf = traversal::reach_leaf_for_scan(image, c.root, c.cursor.ikey)?;
-    let reader = LeafReader {
-        image,
-        at: leaf as usize,
-    };
-    start_in(reader, buf, c, mode)
-}
+    // Start: the first slot that is not passed over, or the layer that the cursor's bytes lead into.
+    #[tactic(auto, using(crate::proofs::Answers::reached_in), unfolding(crate::specs::Moves::find_start, crate::specs::Moves::kept, crate::specs::Moves::taken_on))]
+    pub fn find_start(self, buf: &mut [u8; 256], mode: StartMode) -> Result<Pass, Decline>
+        ensures { (result ≡ (find_start mode self.entry.image.now buf.old self.entry.ctx).pass) × (buf.new ≡ (find_start mode self.entry.image.now buf.old self.entry.ctx).buf) }
+    {
+        let c = self.ctx;
+        let at = traversal::reach_leaf_for_scan(self.image, c.root, c.cursor.ikey)?;
+        let leaf = LeafReader {
+            image: self.image,
+            at: at as usize,
+        };
+        self.start_in(leaf, buf, mode)
+    }
 
-// Retry: the first slot past the cursor, with a duplicate check to follow.
-#[tactic(auto, unfolding(crate::specs::Moves::find_retry, crate::specs::Moves::retry_in, base::specs::Decline::and_then))]
-pub fn find_retry(image: &[u8], buf: &[u8; 256], c: ScanCtx) -> Result<Pass, Decline>
-    requires { c.cursor.offset + c.cursor.len ≤ 256 }
-    ensures { result ≡ find_retry image.now buf.now c }
-{
-    let leaf = traversal::reach_leaf_for_scan(image, c.root, c.cursor.ikey)?;
-    let position = helper::lower_with_suffix(
-        LeafReader {
-            image,
-            at: leaf as usize,
-        },
-        c.cursor,
-        buf,
-    )?;
-    Ok(context::stand(c, leaf, c.cursor, true, c.last, position))
+    // Retry: the first slot past the cursor, with a duplicate check to follow. (Start and Retry begin by one descent, and go on differently.)
+    #[tactic(auto, using(crate::proofs::Answers::reached_in), unfolding(crate::specs::Moves::find_retry, crate::specs::Moves::retry_in, base::specs::Decline::and_then))]
+    pub fn find_retry(self, buf: &[u8; 256]) -> Result<Pass, Decline>
+        ensures { result ≡ find_retry self.entry.image.now buf.now self.entry.ctx }
+    {
+        let c = self.ctx;
+        let at = traversal::reach_leaf_for_scan(self.image, c.root, c.cursor.ikey)?;
+        let leaf = LeafReader {
+            image: self.image,
+            at: at as usize,
+        };
+        let position = helper::lower_with_suffix(leaf, self.cursor(buf))?;
+        Ok(context::stand(c, at, c.cursor, true, c.last, position))
+    }
 }

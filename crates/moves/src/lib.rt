@@ -2,8 +2,8 @@
 // the buffer lent; the loop holds the layer stack. Where the Rust waits for a stable version or starts again, a resting image that cannot
 // be read is declined.
 //
-// Interface: `one_move`, the functions of fast_path, `store_key`, and the types of context. A move asks that the key it works on lies within the
-// buffer, which the step's test of a walk's numbers (21) gives; whatever the image says is answered or declined.
+// Interface: `one_move`, the functions of fast_path and of stored_key, and the types of context. A move asks that the key it works on lies
+// within the buffer, which the step's test of a walk's numbers (21) gives; whatever the image says is answered or declined.
 #![tactic(auto)]
 
 ghost use Rattle.std.specs.Prelude.{◌≡◌, ◌≤◌};
@@ -13,7 +13,9 @@ ghost use Rattle.moves.specs.Moves.{handle_down, handle_up, pass_in};
 ghost use Rattle.moves.specs.CodeMoves.{MoveOk};
 
 use crate::context::{Outcome, Pass, ScanCtx, ScanState};
+use crate::walking::Walking;
 use base::Decline;
+use cursor::cursor_key::CursorReader;
 use cursor::range_bound::End;
 use node::leaf::LeafReader;
 use search::{helper, traversal};
@@ -23,8 +25,10 @@ pub mod fast_path;
 mod find_next;
 mod find_start;
 pub mod stored_key;
+mod walking;
 
 // Down: into the layer whose root the loop has taken.
+#[tactic(auto, unfolding(crate::specs::Moves::handle_down))]
 fn handle_down(c: ScanCtx) -> Pass
     requires { c.cursor.offset ≤ 256 }
     ensures { result ≡ handle_down c }
@@ -42,7 +46,7 @@ fn handle_down(c: ScanCtx) -> Pass
 }
 
 // Up: the loop has popped the layer above; past its slot.
-#[tactic(auto, unfolding(crate::specs::Moves::handle_up, base::specs::Decline::and_then, base::specs::Pick::pick))]
+#[tactic(auto, using(search::proofs::Laws::leaf_there_lem), unfolding(crate::specs::Moves::handle_up, cursor::specs::CursorKey::unshift, base::specs::Decline::and_then, base::specs::Pick::pick))]
 fn handle_up(image: &[u8], buf: &[u8; 256], c: ScanCtx) -> Result<Pass, Decline>
     requires le_offset { 8 ≤ c.cursor.offset }
     requires offset_bound { c.cursor.offset ≤ 248 }
@@ -51,19 +55,18 @@ fn handle_up(image: &[u8], buf: &[u8; 256], c: ScanCtx) -> Result<Pass, Decline>
     if !traversal::is_leaf_there(image, c.leaf) {
         return Err(Decline::Unreadable);
     }
+    let leaf = LeafReader {
+        image,
+        at: c.leaf as usize,
+    };
     let up = c.cursor.unshift(buf);
-    let position = helper::lower_with_suffix(
-        LeafReader {
-            image,
-            at: c.leaf as usize,
-        },
-        up,
-        buf,
-    )?;
+    let position = helper::lower_with_suffix(leaf, CursorReader { place: up, buf })?;
     Ok(context::stand(c, c.leaf, up, true, 0, position))
 }
 
-// One move of the loop. Before Up the loop has popped. `tested` tells that this move is a FindNext and has tested its leaf's version.
+// One move of the loop. Before Up the loop has popped. `tested` tells that this move is a FindNext and has tested its leaf's version: a move
+// tests it once, and the loop and the step have where they tried the fast path (docs/DECISIONS.md, S16).
+#[tactic(auto, unfolding(crate::specs::Moves::pass_in, crate::specs::Moves::kept, crate::specs::CodeMoves::InBuffer))]
 pub fn one_move(
     image: &[u8],
     end: End,
@@ -76,9 +79,9 @@ pub fn one_move(
     ensures { (result ≡ (pass_in c.state image.now end.entry.kind end.entry.key.now buf.old c).pass) × (buf.new ≡ (pass_in c.state image.now end.entry.kind end.entry.key.now buf.old c).buf) }
 {
     match c.state {
-        ScanState::Start(mode) => find_start::find_start(image, buf, c, mode),
-        ScanState::Retry => find_start::find_retry(image, buf, c),
-        ScanState::FindNext => find_next::find_next(image, end, buf, c, tested),
+        ScanState::Start(mode) => Walking { image, ctx: c }.find_start(buf, mode),
+        ScanState::Retry => Walking { image, ctx: c }.find_retry(buf),
+        ScanState::FindNext => Walking { image, ctx: c }.find_next(end, buf, tested),
         ScanState::Down => Ok(handle_down(c)),
         ScanState::Up => handle_up(image, buf, c),
     }

@@ -1,11 +1,14 @@
 -- Where each field of an image stands (01, "The image"). `image` is the image's bytes, `leaf` and `at` are offsets that
 -- count from its start.
 use Rattle.std.specs.Prelude.{◌+◌, ◌*◌, ◌/◌, ◌%◌, ◌-◌, ◌^◌, ◌≤◌, ◌<◌}
-use Rattle.base.specs.Kit.{Bool, List, ℕ, length, get_or}
+use Rattle.base.specs.Kit.{Bool, List, ℕ, length, get_or, leb, eqb}
+use Rattle.base.specs.Pick.{pick}
 use Rattle.node.specs.Le.{u16_at, u32_at, u64_at}
 use Rattle.node.specs.Version.{bit}
 use Rattle.node.specs.declared.permuter.Slot.{Slot}
 use Rattle.node.specs.declared.leaf.Suffix.{Suffix}
+use Rattle.node.specs.declared.leaf.SlotKind.{SlotKind}
+use Rattle.node.specs.declared.leaf.SlotKind.TheVariants.{Inline, Suffix as WithSuffix, Layer, Unlisted}
 
 -- A record lies in the image: "Leaf, 400 bytes", "Internode, 256 bytes". A leaf has 15 slots.
 abbrev pub InLeaf : List ℕ → ℕ → Type 0
@@ -36,6 +39,10 @@ ikey_at image leaf slot = u64_at image (leaf + 16 + 8 * slot.0)
 -- "15 `keylenx` bytes at 136".
 abbrev pub keylenx_at : List ℕ → ℕ → Slot → ℕ
 keylenx_at image leaf slot = get_or image (leaf + 136 + slot.0) 0
+
+-- "`keylenx` 0 to 8 is a key that ends here, 64 a key with a suffix of at least one byte, 128 or more a layer".
+unfoldable pub slot_kind : ℕ → SlotKind
+slot_kind n = pick (leb n 8) Inline (pick (eqb n 64) WithSuffix (pick (leb 128 n) Layer Unlisted))
 
 -- "15 value words at 152".
 abbrev pub value_at : List ℕ → ℕ → Slot → ℕ

@@ -1,31 +1,45 @@
-// An internode's fields (the Rust's internode/accessors.rs), by the lent image and the record's offset.
-ghost use Rattle.std.specs.Prelude.{◌≡◌, ◌+◌, ◌<◌};
-ghost use Rattle.node.specs.Layout.{InInternode, nkeys_at, separator_at, child_at};
+// An internode's fields (the Rust's internode/accessors.rs), read through a reader of the lent image and the record's offset.
+ghost use Rattle.std.specs.Prelude.{◌≡◌, ◌<◌};
+ghost use Rattle.node.specs.Layout.{InInternode, version_at, nkeys_at, separator_at, child_at};
 
 use crate::le;
 
 // An internode's bytes. No record has fewer.
 pub const INTERNODE_SIZE: usize = 256;
 
-pub fn nkeys(image: &[u8], at: usize) -> u8
-    requires { InInternode image.now at }
-    ensures { result ≡ nkeys_at image.now at }
-{
-    image[at + 4]
+// The image and the record's place. A record that is not yet known to be a leaf is read as the shorter of the two.
+#[derive(Clone, Copy)]
+pub struct InternodeReader<'a> {
+    pub image: &'a [u8],
+    pub at: usize,
+    ghost in_internode: { InInternode image.now at },
 }
 
-pub fn separator(image: &[u8], at: usize, i: usize) -> u64
-    requires in_internode { InInternode image.now at }
-    requires i_bound { i < 15 }
-    ensures { result ≡ separator_at image.now at i }
-{
-    le::u64_at(image, at + 8 + 8 * i)
-}
+impl<'a> InternodeReader<'a> {
+    pub fn version(self) -> u32
+        ensures { result ≡ version_at self.entry.image.now self.entry.at }
+    {
+        le::u32_at(self.image, self.at)
+    }
 
-pub fn child(image: &[u8], at: usize, i: usize) -> u64
-    requires in_internode { InInternode image.now at }
-    requires i_bound { i < 16 }
-    ensures { result ≡ child_at image.now at i }
-{
-    le::u64_at(image, at + 128 + 8 * i)
+    pub fn nkeys(self) -> u8
+        ensures { result ≡ nkeys_at self.entry.image.now self.entry.at }
+    {
+        self.image[self.at + 4]
+    }
+
+    pub fn separator(self, i: usize) -> u64
+        requires { i < 15 }
+        ensures { result ≡ separator_at self.entry.image.now self.entry.at i }
+    {
+        le::u64_at(self.image, self.at + 8 + 8 * i)
+    }
+
+    // (Here and in the check's ends the bound of i is asked: i is counted, and has no type of its own.)
+    pub fn child(self, i: usize) -> u64
+        requires { i < 16 }
+        ensures { result ≡ child_at self.entry.image.now self.entry.at i }
+    {
+        le::u64_at(self.image, self.at + 128 + 8 * i)
+    }
 }

@@ -1,7 +1,8 @@
 // A leaf's fields (the Rust's leaf15/layout.rs). They are read through one reader that holds the image and the leaf's
-// place: functions on slice and number, and a method of the reader over each, which every caller uses.
-ghost use Rattle.std.specs.Prelude.{◌≡◌, ◌+◌};
-ghost use Rattle.node.specs.Layout.{InLeaf, InSlot, permutation_at, ikey_at, keylenx_at, value_at, suffix_at, live_at, next_at};
+// place, and a slot's through one that holds this reader and the slot: functions on slice and number, and a method of a
+// reader over each, which every caller uses.
+ghost use Rattle.std.specs.Prelude.{◌≡◌, ◌+◌, ◌<◌};
+ghost use Rattle.node.specs.Layout.{InLeaf, InSlot, permutation_at, ikey_at, keylenx_at, value_at, suffix_at, live_at, next_at, slot_kind};
 
 use crate::le;
 use crate::permuter::Slot;
@@ -22,7 +23,33 @@ pub const KSUF_KEYLENX: u8 = 64;
 // `keylenx` from which on a slot is a layer.
 pub const LAYER_KEYLENX: u8 = 128;
 
-// Each field by slice and number.
+// What a slot's `keylenx` says of its key: it ends in this layer; it goes on in a suffix; its layer goes on below; or nothing,
+// as no slot of an accepted image has it.
+#[derive(Clone, Copy, Debug, PartialEq, Eq)]
+pub enum SlotKind {
+    Inline,
+    Suffix,
+    Layer,
+    Unlisted,
+}
+
+#[tactic(auto, using(std::proofs::lemmas::Bool::Decides::nat_tests), unfolding(crate::specs::Layout::slot_kind, base::specs::Pick::pick))]
+pub fn slot_kind(keylenx: u8) -> SlotKind
+    ensures { result ≡ slot_kind keylenx }
+{
+    if keylenx <= 8 {
+        return SlotKind::Inline;
+    }
+    if keylenx == KSUF_KEYLENX {
+        return SlotKind::Suffix;
+    }
+    if LAYER_KEYLENX <= keylenx {
+        return SlotKind::Layer;
+    }
+    SlotKind::Unlisted
+}
+
+// Each field by slice and number, in a function of its own: 01 names this form, a reader whose methods are thin over such functions.
 fn permutation_at(image: &[u8], at: usize) -> u64
     requires { InLeaf image.now at }
     ensures { result ≡ permutation_at image.now at }
@@ -83,55 +110,65 @@ fn next_at(image: &[u8], at: usize) -> u64
 pub struct LeafReader<'a> {
     pub image: &'a [u8],
     pub at: usize,
+    ghost in_leaf: { InLeaf image.now at },
 }
 
 impl<'a> LeafReader<'a> {
     pub fn permutation(self) -> u64
-        requires { InLeaf self.image.now self.at }
         ensures { result ≡ permutation_at self.entry.image.now self.entry.at }
     {
         permutation_at(self.image, self.at)
     }
 
-    pub fn ikey(self, slot: Slot) -> u64
-        requires { InSlot self.image.now self.at slot }
-        ensures { result ≡ ikey_at self.entry.image.now self.entry.at slot }
-    {
-        ikey_at(self.image, self.at, slot)
-    }
-
-    pub fn keylenx(self, slot: Slot) -> u8
-        requires { InSlot self.image.now self.at slot }
-        ensures { result ≡ keylenx_at self.entry.image.now self.entry.at slot }
-    {
-        keylenx_at(self.image, self.at, slot)
-    }
-
-    pub fn value(self, slot: Slot) -> u64
-        requires { InSlot self.image.now self.at slot }
-        ensures { result ≡ value_at self.entry.image.now self.entry.at slot }
-    {
-        value_at(self.image, self.at, slot)
-    }
-
-    pub fn ksuf(self, slot: Slot) -> Suffix
-        requires { InSlot self.image.now self.at slot }
-        ensures { result ≡ suffix_at self.entry.image.now self.entry.at slot }
-    {
-        ksuf_at(self.image, self.at, slot)
-    }
-
-    pub fn live(self, slot: Slot) -> bool
-        requires { InSlot self.image.now self.at slot }
-        ensures { result ≡ live_at self.entry.image.now self.entry.at slot }
-    {
-        live_at(self.image, self.at, slot)
-    }
-
     pub fn next(self) -> u64
-        requires { InLeaf self.image.now self.at }
         ensures { result ≡ next_at self.entry.image.now self.entry.at }
     {
         next_at(self.image, self.at)
+    }
+}
+
+// A leaf and one of its fifteen slots.
+#[derive(Clone, Copy)]
+pub struct SlotReader<'a> {
+    pub leaf: LeafReader<'a>,
+    pub slot: Slot,
+    ghost in_slot: { slot.0 < 15 },
+}
+
+impl<'a> SlotReader<'a> {
+    pub fn ikey(self) -> u64
+        ensures { result ≡ ikey_at self.entry.leaf.image.now self.entry.leaf.at self.entry.slot }
+    {
+        ikey_at(self.leaf.image, self.leaf.at, self.slot)
+    }
+
+    pub fn keylenx(self) -> u8
+        ensures { result ≡ keylenx_at self.entry.leaf.image.now self.entry.leaf.at self.entry.slot }
+    {
+        keylenx_at(self.leaf.image, self.leaf.at, self.slot)
+    }
+
+    pub fn kind(self) -> SlotKind
+        ensures { result ≡ slot_kind (keylenx_at self.entry.leaf.image.now self.entry.leaf.at self.entry.slot) }
+    {
+        slot_kind(self.keylenx())
+    }
+
+    pub fn value(self) -> u64
+        ensures { result ≡ value_at self.entry.leaf.image.now self.entry.leaf.at self.entry.slot }
+    {
+        value_at(self.leaf.image, self.leaf.at, self.slot)
+    }
+
+    pub fn ksuf(self) -> Suffix
+        ensures { result ≡ suffix_at self.entry.leaf.image.now self.entry.leaf.at self.entry.slot }
+    {
+        ksuf_at(self.leaf.image, self.leaf.at, self.slot)
+    }
+
+    pub fn live(self) -> bool
+        ensures { result ≡ live_at self.entry.leaf.image.now self.entry.leaf.at self.entry.slot }
+    {
+        live_at(self.leaf.image, self.leaf.at, self.slot)
     }
 }

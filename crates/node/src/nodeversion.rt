@@ -1,17 +1,13 @@
 // A record's version word (the Rust's nodeversion.rs): the leaf bit, and the four bits that are clear at rest. Leaves and internodes both
-// begin with it, and it is read before either is known: so it is no field of the leaf's reader.
+// begin with it, and it is read before either is known: so it is no field of the leaf's reader, but of the internode's, which is shorter.
 ghost use Rattle.std.specs.Prelude.{◌≡◌, ◌<◌};
-ghost use Rattle.node.specs.Layout.{InInternode, version_at};
 ghost use Rattle.node.specs.Version.{bit, is_leaf, at_rest};
 
-use crate::le;
-
-// An internode is the shorter of the two records.
-pub fn version(image: &[u8], at: usize) -> u32
-    requires { InInternode image.now at }
-    ensures { result ≡ version_at image.now at }
-{
-    le::u32_at(image, at)
+// What a record is, by its leaf bit.
+#[derive(Clone, Copy, Debug, PartialEq, Eq)]
+pub enum RecordKind {
+    Leaf,
+    Internode,
 }
 
 // Whether bit k is set.

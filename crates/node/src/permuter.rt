@@ -7,7 +7,7 @@ ghost use Rattle.node.specs.Permuter.{size_of, slot_at};
 #[derive(Clone, Copy, Debug, PartialEq, Eq)]
 pub struct Position(pub usize);
 
-// A place in the leaf's arrays. 15 is none of the 15 places.
+// A place in the leaf's arrays. 15 is none of the 15 places: four bits of the image hold it, and who reads one tests it (search's `slot_at`).
 #[derive(Clone, Copy, Debug, PartialEq, Eq)]
 pub struct Slot(pub usize);
 
@@ -17,6 +17,7 @@ pub fn size(permutation: u64) -> usize
     (permutation % 16) as usize
 }
 
+// (The position's bound is asked of callers: it is no fact of Position's, since a walk's may be 15.)
 #[tactic(auto, unfolding(crate::specs::Permuter::slot_at))]
 pub fn get(permutation: u64, p: Position) -> Slot
     requires { p.0 < 15 }

@@ -7,32 +7,37 @@ ghost use Rattle.node.specs.Heading.{length_ok, heading};
 use crate::le;
 use base::Decline;
 
-pub fn root(image: &[u8]) -> u64
-    requires { 32 ≤ length image.now }
-    ensures { result ≡ root_offset image.now }
-{
-    le::u64_at(image, image.len() - 32)
+// An image that is long enough to have a trailer.
+#[derive(Clone, Copy)]
+pub struct Trailer<'a> {
+    pub image: &'a [u8],
+    ghost whole: { 32 ≤ length image.now },
 }
 
-pub fn key_count(image: &[u8]) -> u64
-    requires { 32 ≤ length image.now }
-    ensures { result ≡ key_count image.now }
-{
-    le::u64_at(image, image.len() - 24)
-}
+impl<'a> Trailer<'a> {
+    pub fn root(self) -> u64
+        ensures { result ≡ root_offset self.entry.image.now }
+    {
+        le::u64_at(self.image, self.image.len() - 32)
+    }
 
-fn stated_length(image: &[u8]) -> u64
-    requires { 32 ≤ length image.now }
-    ensures { result ≡ stated_length image.now }
-{
-    le::u64_at(image, image.len() - 16)
-}
+    pub fn key_count(self) -> u64
+        ensures { result ≡ key_count self.entry.image.now }
+    {
+        le::u64_at(self.image, self.image.len() - 24)
+    }
 
-fn edition_of(image: &[u8]) -> u64
-    requires { 32 ≤ length image.now }
-    ensures { result ≡ edition image.now }
-{
-    le::u64_at(image, image.len() - 8)
+    fn stated_length(self) -> u64
+        ensures { result ≡ stated_length self.entry.image.now }
+    {
+        le::u64_at(self.image, self.image.len() - 16)
+    }
+
+    fn edition(self) -> u64
+        ensures { result ≡ edition self.entry.image.now }
+    {
+        le::u64_at(self.image, self.image.len() - 8)
+    }
 }
 
 // Whether an image may have n bytes.
@@ -52,7 +57,8 @@ pub fn check_heading(image: &[u8]) -> Result<(), Decline>
     if !is_length_ok(n) {
         return Err(Decline::ImageLength);
     }
-    if stated_length(image) != (n as u64) || edition_of(image) != 1 {
+    let trailer = Trailer { image };
+    if trailer.stated_length() != (n as u64) || trailer.edition() != 1 {
         return Err(Decline::Trailer);
     }
     Ok(())

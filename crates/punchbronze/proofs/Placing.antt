@@ -8,7 +8,7 @@ use Rattle.cursor.specs.RangeBound.{bound_of}
 use Rattle.punchbronze.specs.Types.{Decline, RangeBound, StartMode}
 use Rattle.walk.specs.Walk.{zero_walk}
 use Rattle.walk.specs.Placing.{placing, placed_by, fresh_walk, place}
-use Rattle.walk.proofs.PlaceLaws.{placed-fits}
+use Rattle.walk.proofs.PlaceLaws.{placed_fits}
 use Rattle.walk_record.specs.Record.{numbers_of, read_walk, is_record}
 use Rattle.walk_record.proofs.Inverse.{Arrays, record_inverse}
 
@@ -26,7 +26,7 @@ module _ (image : List ℕ) (mode : StartMode) (key : List ℕ) (kind : ℕ) (bo
   fresh_arrays : placing image key kind bound ≡ Ok tt → Arrays (fresh_walk image mode key kind bound)
   unfolding fresh_walk from_slice
   fresh_arrays e =
-      let f = placed-fits image key kind bound e in
+      let f = placed_fits image key kind bound e in
       let b = bound-fits f.2 f.3 in
       record { stack_is = refl; buf-is = padded-length key (omega arith); key-is = b.0; kind_fits = b.1 }
 

@@ -1,5 +1,5 @@
 // What C calls: each function is the one of `punchbronze` with the same name, and has its contract. The library is made of this crate;
-// include/punchbronze.h declares its functions.
+// include/punchbronze.h declares its functions. (They stand beside punchbronze's: proofs cite those, and a C function cannot be called here.)
 #![tactic(auto)]
 
 ghost use Rattle.std.specs.Prelude.{◌≡◌};

@@ -4,7 +4,7 @@ use Rattle.base.specs.Kit.{refl, ap, ap₂, sym, ◌∙◌, true, and-eq-true_if
 use Rattle.base.specs.Pick.{pick}
 use Rattle.base.proofs.Choice.{pick_ind, by_test}
 use Rattle.sheet.specs.Sheet.{hex_digit, hex_bytes, hex_key}
-use Rattle.sheet.proofs.Hex.{hex_key-some}
+use Rattle.sheet.proofs.Hex.{hex_key_some}
 use Rattle.reading.specs.Read.{got, digit, nibble, hex_pair, Taken, key_bytes, some_key, read_key}
 use Rattle.reading.proofs.Gets.{none-got, cases-got}
 use Rattle.reading.proofs.Numbers.{digit-true, true-digit, false-digit}
@@ -131,7 +131,7 @@ read_key-text (b ∷ s) {k} {r} g =
     (λ d w.
     let v = some-got (key_bytes (b ∷ s)).key (key_bytes (b ∷ s)).rest w in
     let t = key_bytes-text (b ∷ s) in (
-      t.0 ∙ ap₂ (λ (j q : List ℕ). j ++ q) (sym (hex_key-some (key_bytes (b ∷ s)).key v.2) ∙ ap hex_key v.0) v.1,
+      t.0 ∙ ap₂ (λ (j q : List ℕ). j ++ q) (sym (hex_key_some (key_bytes (b ∷ s)).key v.2) ∙ ap hex_key v.0) v.1,
       rw v.0 at t.1,
     ))
 

@@ -12,7 +12,7 @@ use Rattle.layering.specs.Keys.{Pair}
 use Rattle.layering.specs.Ascending.{All, Ascending}
 use Rattle.layering.proofs.Row.{all_map}
 use Rattle.sheet.specs.Sheet.{hex_digit, hex_bytes, hex_key}
-use Rattle.sheet.proofs.Hex.{hex_bytes-length}
+use Rattle.sheet.proofs.Hex.{hex_bytes_length}
 use Rattle.reading.specs.Read.{Got, none, got, next, station, stations}
 use Rattle.reading.specs.Fault.{rise_above, keys_rise}
 use Rattle.reading.specs.CodeViews.{follows, texts_rise, risen}
@@ -60,8 +60,8 @@ unfolding hex_key
 text-bound [] = refl
 text-bound (b ∷ k) =
     by_test (leb (length (b ∷ k)) 256)
-    (λ t. le-leb (length (hex_bytes (b ∷ k))) 512 (omega (arith, hex_bytes-length (b ∷ k), leb-true (length (b ∷ k)) 256 t)) ∙ sym t)
-    (λ f. lt-leb (length (hex_bytes (b ∷ k))) 512 (omega (arith, hex_bytes-length (b ∷ k), leb-false (length (b ∷ k)) 256 f)) ∙ sym f)
+    (λ t. le-leb (length (hex_bytes (b ∷ k))) 512 (omega (arith, hex_bytes_length (b ∷ k), leb-true (length (b ∷ k)) 256 t)) ∙ sym t)
+    (λ f. lt-leb (length (hex_bytes (b ∷ k))) 512 (omega (arith, hex_bytes_length (b ∷ k), leb-false (length (b ∷ k)) 256 f)) ∙ sym f)
 
 -- the text before the first key is empty, and a key's text is not
 first-follows : (k : List ℕ) → is_lt (byte_order [] (hex_key k)) ≡ true

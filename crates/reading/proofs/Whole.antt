@@ -1,17 +1,16 @@
 -- Stations as the loop passes them, and a whole sheet: one law for each way out of the code that reads it.
-use Rattle.std.specs.Prelude.{◌≡◌, ◌&&◌, ◌+◌, ◌*◌, ◌≤◌, None, Some, Result, Ok, Err}
-use Rattle.base.specs.Kit.{refl, ap, sym, ◌∙◌, Bool, true, false, max, List, [], ℕ, suc, arith, length, drop, length-append, length-drop}
+use Rattle.std.specs.Prelude.{◌≡◌, ◌&&◌, ◌*◌, ◌-◌, ◌≤◌, Option, None, Some, Result, Ok, Err, ok_or, IsErrAnd}
+use Rattle.base.specs.Kit.{refl, ap, sym, ◌∙◌, Bool, true, false, max, List, [], ℕ, suc, arith, length, take, drop, length-append}
 use Rattle.base.specs.Pick.{pick}
 use Rattle.base.specs.declared.Decline.{Decline}
 use Rattle.base.specs.declared.Decline.TheVariants.{SheetForm, SheetOrder}
+use Rattle.base.proofs.Declines.{handed_on}
 use Rattle.layering.specs.Keys.{Pair}
-use Rattle.key.specs.Part.{part}
 use Rattle.sheet.specs.Sheet.{hex_key, first_line}
 use Rattle.reading.specs.Read.{Got, none, got, next, station, stations, read_head, read_end, body}
 use Rattle.reading.specs.Fault.{keys_rise, judged, formed, read_sheet}
 use Rattle.reading.specs.Opened.{opened}
-use Rattle.reading.specs.CodeViews.{NumberRead, key_at, StationRead, follows, texts_rise, risen}
-use Rattle.reading.specs.declared.Found.{Found}
+use Rattle.reading.specs.CodeViews.{key_at, StationRead, follows, texts_rise, risen}
 use Rattle.reading.specs.declared.Line.{Line}
 use Rattle.reading.specs.declared.Opened.{Opened}
 use Rattle.reading.proofs.Gets.{none-got}
@@ -20,26 +19,22 @@ use Rattle.reading.proofs.Rising.{texts_rise_lem, risen-more}
 use Rattle.reading.proofs.Pairs.{line-got}
 use Rattle.reading.proofs.Lines.{text-length, text_double, key-text}
 
--- A STATION PASSED: its key's text, and what it adds.
-module _ (s : List ℕ) (place : ℕ) (buf buf' : List ℕ) (r : Line) (R : StationRead s place buf buf' (Some r)) where
-  there : station (drop place s) ≡ got (record { key = key_at (drop place s); value = r.value }) (drop r.next s)
-  there = line-got s place buf buf' r R
+-- A STATION PASSED, at the front of a text: its key's text, and what it adds.
+module _ (s buf buf' : List ℕ) (r : Line) (R : StationRead s 0 buf buf' (Some r)) where
+  there : station s ≡ got (record { key = key_at s; value = r.value }) (drop r.next s)
+  there = line-got s 0 buf buf' r R
 
   pub text-fits : 2 * r.key_len ≤ length s
-  text-fits =
-      omega (arith, R.found.0, (key-text s place _ _ there).1, text_double (key_at (drop place s)))
+  text-fits = omega (arith, R.found.0, (key-text s _ _ there).1, text_double (key_at s))
 
-  long : max (2 * r.key_len) 1 ≡ length (hex_key (key_at (drop place s)))
-  long = rw R.found.0 (text-length (key_at (drop place s)))
+  long : max (2 * r.key_len) 1 ≡ length (hex_key (key_at s))
+  long = rw R.found.0 (text-length (key_at s))
 
-  pub text-inside : place + max (2 * r.key_len) 1 ≤ length s
-  text-inside = rw long (key-text s place _ _ there).1
-
-  pub station_passed : (n : ℕ) (t : List ℕ) (ok : Bool) → risen t ok (stations (suc n) (drop place s))
-      ≡ risen (part s place (max (2 * r.key_len) 1)) (ok && follows t (part s place (max (2 * r.key_len) 1))) (stations n (drop r.next s))
+  pub station_passed : (n : ℕ) (t : List ℕ) (ok : Bool) → risen t ok (stations (suc n) s)
+      ≡ risen (take (max (2 * r.key_len) 1) s) (ok && follows t (take (max (2 * r.key_len) 1) s)) (stations n (drop r.next s))
   station_passed n t ok =
-      let k : part s place (max (2 * r.key_len) 1) ≡ hex_key (key_at (drop place s)) = rw long (key-text s place _ _ there).0 in
-      rw k (risen-more n (drop place s) t ok _ _ there)
+      let k : take (max (2 * r.key_len) 1) s ≡ hex_key (key_at s) = rw long (key-text s _ _ there).0 in
+      rw k (risen-more n s t ok _ _ there)
 
 -- stations by what is seen of them
 risen-none : (g : Got (List Pair)) → none ≡ risen [] true g → g ≡ none
@@ -56,44 +51,50 @@ risen-got (got xs r) ok q h =
     let m : q ≡ r = cc in
     (xs, ap (got xs) (sym m), n ∙ texts_rise_lem xs)
 
+-- what is not there is a sheet's form that is not kept
+pub form_handed : {A B : Type 0} (o : Option A) (d : Decline) (r w : Result B Decline) → o ≡ None → Err d ≡ ok_or o SheetForm
+    → IsErrAnd r (λ e. e ≡ d) → Err SheetForm ≡ w → r ≡ w
+form_handed {A} o d r w n v h e =
+    let z : ◌≡◌ {A = Result A Decline} (Err d) (Err SheetForm) = rw n at v in
+    let q : d ≡ SheetForm = cc in
+    handed_on r d w h (rw q e)
+
 abbrev Says : List ℕ → Result Opened Decline → Type 0
 Says s a = a ≡ opened (read_sheet s)
 
 module _ (s : List ℕ) where
-  pub no_head : NumberRead (read_head s) s 0 None → Says s (Err SheetForm)
+  pub no_head : none ≡ read_head s → Says s (Err SheetForm)
   unfolding read_sheet formed next opened
-  no_head H = rw (sym H.seen)
+  no_head H = rw (sym H)
 
-  module _ (h : Found ℕ) (H : NumberRead (read_head s) s 0 (Some h)) where
-    headed : read_head s ≡ got h.value (drop h.next s)
-    headed = sym H.seen
-
-    pub no-stations : none ≡ risen [] true (stations h.value (drop h.next s)) → Says s (Err SheetForm)
+  module _ (n : ℕ) (r : List ℕ) (H : got n r ≡ read_head s) where
+    pub no-stations : none ≡ risen [] true (stations n r) → Says s (Err SheetForm)
     unfolding read_sheet formed next body opened
-    no-stations g = rw (headed, risen-none (stations h.value (drop h.next s)) g)
+    no-stations g = rw (sym H, risen-none (stations n r) g)
 
-    module _ (p : Found Bool) (P : got p.value (drop p.next s) ≡ risen [] true (stations h.value (drop h.next s))) where
-      passed : (xs : List Pair) × (stations h.value (drop h.next s) ≡ got xs (drop p.next s)) × (p.value ≡ keys_rise xs)
-      passed = risen-got (stations h.value (drop h.next s)) p.value (drop p.next s) P
+    module _ (ok : Bool) (q : List ℕ) (P : got ok q ≡ risen [] true (stations n r)) where
+      passed : (xs : List Pair) × (stations n r ≡ got xs q) × (ok ≡ keys_rise xs)
+      passed = risen-got (stations n r) ok q P
 
-      pub no_end : none ≡ read_end (drop p.next s) → Says s (Err SheetForm)
+      pub no_end : none ≡ read_end q → Says s (Err SheetForm)
       unfolding read_sheet formed next body opened
-      no_end M = rw (headed, passed.1, sym M)
+      no_end M = rw (sym H, passed.1, sym M)
 
-      module _ (m : Found ℕ) (M : got m.value (drop m.next s) ≡ read_end (drop p.next s)) where
-        whole : read_sheet s ≡ judged (record { pairs = passed.0; figure = m.value })
+      module _ (m : ℕ) (z : List ℕ) (M : got m z ≡ read_end q) where
+        whole : read_sheet s ≡ judged (record { pairs = passed.0; figure = m })
         unfolding read_sheet formed next body
-        whole = rw (headed, passed.1, sym M)
+        whole = rw (sym H, passed.1, sym M)
 
-        pub not_rising : p.value ≡ false → Says s (Err SheetOrder)
+        pub not_rising : ok ≡ false → Says s (Err SheetOrder)
         unfolding judged opened pick
         not_rising f = rw (whole, sym passed.2 ∙ f)
 
-        pub all-good : p.value ≡ true → Says s (Ok (record { count = h.value; line = h.next }))
+        pub all-good : ok ≡ true → Says s (Ok (record { count = n; line = length s - length r }))
         unfolding judged opened pick
-        all-good r =
-            let t = head-text s headed in
-            let c : h.value ≡ length passed.0 = (stations-text h.value (drop h.next s) passed.0 (drop p.next s) passed.1).2 in
-            let l : length (first_line h.value) ≡ h.next =
-            omega (arith, H.inside, ap length t.0, length-append (first_line h.value) (drop h.next s), length-drop h.next s) in
-            rw (whole, sym passed.2 ∙ r, ← c, l)
+        all-good t =
+            let c : n ≡ length passed.0 = (stations-text n r passed.0 q passed.1).2 in
+            let l : length (first_line n) ≡ length s - length r = omega (arith, ap length (head-text s (sym H)).0, length-append (first_line n) r) in
+            rw (whole, sym passed.2 ∙ t, ← c, l)
+
+    pub head-inside : length r ≤ length s
+    head-inside = omega (arith, ap length (head-text s (sym H)).0, length-append (first_line n) r)

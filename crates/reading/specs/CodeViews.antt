@@ -1,5 +1,5 @@
--- What the code's answers say, as Read.antt says it: `next` is the place in s where the text behind a thing starts.
-use Rattle.std.specs.Prelude.{◌≡◌, ◌&&◌, ◌∷◌, ◌+◌, ◌*◌, ◌-◌, ◌≤◌, ◌<◌, Option, None, Some, IfSome}
+-- What the code's answers say, as Read.antt says it: `rest` is the text behind a thing, and `next` the place in s where that text starts.
+use Rattle.std.specs.Prelude.{◌≡◌, ◌&&◌, ◌∷◌, ◌-◌, ◌≤◌, ◌<◌, Option, None, Some, IfSome}
 use Rattle.std.specs.Ordering.{is_lt}
 use Rattle.base.specs.Kit.{Bool, true, false, List, [], ℕ, ltb, leb, eqb, length, drop, sets}
 use Rattle.base.specs.Pick.{pick}
@@ -10,28 +10,18 @@ use Rattle.reading.specs.Read.{Got, none, got, digit, nibble, key_bytes, read_ke
 use Rattle.reading.specs.declared.Found.{Found}
 use Rattle.reading.specs.declared.Line.{Line}
 
--- What was found in s.
-abbrev pub found_seen : {A : Type 0} → List ℕ → Option (Found A) → Got A
-found_seen s None = none
-found_seen s (Some r) = got r.value (drop r.next s)
-
--- A decimal, or a line's end with one, looked for from `at` on; g is what stands there.
-pub record NumberRead (g : Got ℕ) (s : List ℕ) (at : ℕ) (r : Option (Found ℕ)) : Type 0 where
-  pub seen : found_seen s r ≡ g
-  pub inside : IfSome r (λ n. (at ≤ n.next) × (n.next ≤ length s))
+-- What stood at the front of a text.
+abbrev pub found_seen : {A : Type 0} → Option (Found A) → Got A
+found_seen None = none
+found_seen (Some r) = got r.value r.rest.now
 
 -- The digit at the front of a text, by its number; and the number of a hex digit.
-unfoldable pub digit_seen : List ℕ → Option ℕ
-digit_seen [] = None
-digit_seen (b ∷ s) = pick (digit b) (Some (b - 48)) None
+unfoldable pub first_digit : List ℕ → Got ℕ
+first_digit [] = none
+first_digit (b ∷ s) = pick (digit b) (got (b - 48) s) none
 
 unfoldable pub hex_digit_seen : ℕ → Option ℕ
 hex_digit_seen b = pick (ltb (nibble b) 16) (Some (nibble b)) None
-
--- A byte as two hex digits, from `at` on.
-abbrev pub byte_seen : List ℕ → ℕ → Option ℕ → Got ℕ
-byte_seen s at None = none
-byte_seen s at (Some b) = got b (drop (at + 2) s)
 
 -- Whether a text starts with a word.
 unfoldable pub word_at : List ℕ → List ℕ → Bool
@@ -46,23 +36,21 @@ key_at (b ∷ s) = pick (eqb b 45) [] (key_bytes (b ∷ s)).key
 
 -- Bytes of a key taken while they stand there, as many as fit left in the buffer. `sets b 0 k` of the library is b with the bytes of k
 -- stored from its front on; what would lie past its end is left out.
-pub record RunRead (s : List ℕ) (at : ℕ) (buf buf' : List ℕ) (r : Found ℕ) : Type 0 where
-  pub rest : (key_bytes (drop at s)).rest ≡ drop r.next s
-  pub len : r.value ≡ length (key_bytes (drop at s)).key
-  pub inside : r.next ≤ length s
-  pub on : at + 2 * r.value ≡ r.next
-  pub kept : buf' ≡ sets buf 0 (key_bytes (drop at s)).key
+pub record RunRead (s buf buf' : List ℕ) (r : Found ℕ) : Type 0 where
+  pub rest : r.rest.now ≡ (key_bytes s).rest
+  pub len : r.value ≡ length (key_bytes s).key
+  pub kept : buf' ≡ sets buf 0 (key_bytes s).key
 
 -- A key k that was looked for.
-abbrev pub key_seen : List ℕ → List ℕ → Option (Found ℕ) → Got (List ℕ)
-key_seen s k None = none
-key_seen s k (Some r) = got k (drop r.next s)
+abbrev pub key_seen : List ℕ → Option (Found ℕ) → Got (List ℕ)
+key_seen k None = none
+key_seen k (Some r) = got k r.rest.now
 
--- A key looked for at a place of s: what was found, its length, and the buffer, which holds as much of it as fits.
-pub record KeyRead (s : List ℕ) (at : ℕ) (buf buf' : List ℕ) (r : Option (Found ℕ)) : Type 0 where
-  pub seen : key_seen s (key_at (drop at s)) r ≡ read_key (drop at s)
-  pub found : IfSome r (λ k. (k.value ≡ length (key_at (drop at s))) × (at < k.next) × (k.next ≤ length s))
-  pub kept : buf' ≡ sets buf 0 (key_at (drop at s))
+-- A key looked for at the front of s: what was found, its length, and the buffer, which holds as much of it as fits.
+pub record KeyRead (s buf buf' : List ℕ) (r : Option (Found ℕ)) : Type 0 where
+  pub seen : key_seen (key_at s) r ≡ read_key s
+  pub len : IfSome r (λ k. k.value ≡ length (key_at s))
+  pub kept : buf' ≡ sets buf 0 (key_at s)
 
 -- A station's line looked for at a place of s.
 abbrev pub station_seen : List ℕ → List ℕ → Option Line → Got Pair

@@ -1,25 +1,23 @@
 // Sheets of edition 1, read from a lent slice.
 //
-// Interface: `read_sheet` and `station_at`. A reader takes the sheet and a place in it, and answers what stands there, with the place
-// behind it, or `None`.
+// Interface: `read_sheet` and `station_at`. A reader takes a text and answers what stands at its front, with the text behind it, or `None`.
 #![tactic(auto)]
 
-ghost use Rattle.std.specs.Prelude.{◌≡◌, ◌&&◌, ◌+◌, ◌≤◌, IfSome};
+ghost use Rattle.std.specs.Prelude.{◌≡◌, ◌&&◌, IfSome, IfNone};
 ghost use Rattle.base.specs.Kit.{[], Bool, length, drop, set};
-ghost use Rattle.key.specs.Part.{part};
 ghost use Rattle.reading.specs.Read.{digits, number, word_number, hex_byte, stations, read_end};
 ghost use Rattle.reading.specs.Fault.{read_sheet};
 ghost use Rattle.reading.specs.Opened.{opened};
-ghost use Rattle.reading.specs.CodeViews.{found_seen, byte_seen, hex_digit_seen, digit_seen, NumberRead, RunRead, KeyRead, StationRead, follows, risen};
+ghost use Rattle.reading.specs.CodeViews.{found_seen, first_digit, hex_digit_seen, word_at, RunRead, KeyRead, StationRead, follows, risen};
 
 use base::Decline;
-use key::{compare, part_of};
+use key::{compare, first};
 
-/// What was found at a place, and the place behind it.
+// What stands at the front of a text, and the text behind it.
 #[derive(Clone, Copy)]
-pub struct Found<T> {
-    pub value: T,
-    pub next: usize,
+struct Found<'a, T> {
+    value: T,
+    rest: &'a [u8],
 }
 
 /// A station's line: the key's length, the value, and the place behind the line.
@@ -41,113 +39,102 @@ pub struct Opened {
 pub fn read_sheet(s: &[u8]) -> Result<Opened, Decline>
     ensures { result ≡ opened (read_sheet s.now) }
 {
-    let Some(head) = word_number_at(s, 0, b"sheet 1 keys ") else {
-        return Err(Decline::SheetForm);
-    };
-    let Some(passed) = stations_at(s, head.next, head.value) else {
-        return Err(Decline::SheetForm);
-    };
-    let Some(_) = end_at(s, passed.next) else {
-        return Err(Decline::SheetForm);
-    };
-    if !passed.value {
+    let count = word_number(s, b"sheet 1 keys ").ok_or(Decline::SheetForm)?;
+    let rising = stations(count.rest, count.value).ok_or(Decline::SheetForm)?;
+    end(rising.rest).ok_or(Decline::SheetForm)?;
+    if !rising.value {
         return Err(Decline::SheetOrder);
     }
     Ok(Opened {
-        count: head.value as usize,
-        line: head.next,
+        count: count.value as usize,
+        line: s.len() - count.rest.len(),
     })
 }
 
-// As many station lines as the count says, from `at` on: whether their keys rise. Lower-case hex has the order of the bytes, so that
+// As many station lines as the count says: whether their keys rise. Lower-case hex has the order of the bytes, so that
 // two keys are compared by their texts where they stand; behind one that does not rise none is compared.
-fn stations_at(s: &[u8], at: usize, count: u64) -> Option<Found<bool>>
-    requires { at ≤ length s.now }
-    ensures seen { found_seen s.now result ≡ risen [] Bool.true (stations count (drop at s.now)) }
-    ensures inside { IfSome result (λ p. p.next ≤ length s.now) }
+fn stations(text: &[u8], count: u64) -> Option<Found<bool>>
+    ensures { found_seen result ≡ risen [] Bool.true (stations count text.now) }
 {
-    let mut place = at;
+    let mut rest = text;
     let mut before: &[u8] = &[];
     let mut rising = true;
     for _ in 0..count {
         let mut scratch = [0u8; 1];
-        let line = station_at(s, place, &mut scratch)?;
-        let text = part_of(s, place, (2 * line.key_len).max(1));
-        rising = rising && follows(before, text);
-        before = text;
-        place = line.next;
+        let line = station_at(rest, 0, &mut scratch)?;
+        let key = first(rest, (2 * line.key_len).max(1));
+        rising = rising && follows(before, key);
+        before = key;
+        rest = &rest[line.next..];
     }
     Some(Found {
         value: rising,
-        next: place,
+        rest,
     })
 }
 
 // Whether a key's text may stand behind another's.
+#[tactic(auto, unfolding(crate::specs::CodeViews::follows), using(std::proofs::lemmas::Bool::Decides::nat_tests))]
 fn follows(before: &[u8], text: &[u8]) -> bool
     ensures { result ≡ follows before.now text.now }
 {
     text.len() <= 512 && compare(before, text).is_lt()
 }
 
-// The end line at a place of a sheet, with nothing behind it.
-fn end_at(s: &[u8], at: usize) -> Option<Found<u64>>
-    requires { at ≤ length s.now }
-    ensures { found_seen s.now result ≡ read_end (drop at s.now) }
+// The end line, with nothing behind it.
+fn end(text: &[u8]) -> Option<Found<u64>>
+    ensures { found_seen result ≡ read_end text.now }
 {
-    let end = word_number_at(s, at, b"end ")?;
-    if end.next < s.len() {
+    let figure = word_number(text, b"end ")?;
+    if !figure.rest.is_empty() {
         return None;
     }
-    Some(end)
+    Some(figure)
 }
 
 /// A station's line at a place of a sheet; the first bytes of its key, as many as fit, are left in the buffer.
 pub fn station_at(s: &[u8], at: usize, buf: &mut [u8]) -> Option<Line>
     ensures { StationRead s.now at buf.old buf.new result }
 {
-    let key = key_at(s, at, buf)?;
-    let value = word_number_at(s, key.next, b" ")?;
+    if s.len() < at {
+        return None;
+    }
+    let key = key(&s[at..], buf)?;
+    let value = word_number(key.rest, b" ")?;
     Some(Line {
         key_len: key.value,
         value: value.value,
-        next: value.next,
+        next: s.len() - value.rest.len(),
     })
 }
 
-// The length of a key at a place of a sheet; its first bytes, as many as fit, are left in the buffer.
-fn key_at(s: &[u8], at: usize, buf: &mut [u8]) -> Option<Found<usize>>
-    ensures { KeyRead s.now at buf.old buf.new result }
+// A key's length; its first bytes, as many as fit, are left in the buffer.
+fn key<'a>(text: &'a [u8], buf: &mut [u8]) -> Option<Found<'a, usize>>
+    ensures { KeyRead text.now buf.old buf.new result }
 {
-    if s.len() <= at {
-        return None;
+    if let Some(rest) = behind(text, b"-") {
+        return Some(Found { value: 0, rest });
     }
-    if s[at] == b'-' {
-        return Some(Found {
-            value: 0,
-            next: at + 1,
-        });
-    }
-    let run = key_bytes_at(s, at, buf);
+    let run = key_bytes(text, buf);
     if run.value == 0 {
         return None;
     }
     Some(run)
 }
 
-// How many bytes of a key stand at a place. As many as fit are left in the buffer.
-fn key_bytes_at(s: &[u8], at: usize, buf: &mut [u8]) -> Found<usize>
-    requires { at ≤ length s.now }
-    ensures { RunRead s.now at buf.old buf.new result }
+// How many bytes of a key stand there. As many as fit are left in the buffer.
+fn key_bytes<'a>(text: &'a [u8], buf: &mut [u8]) -> Found<'a, usize>
+    ensures { RunRead text.now buf.old buf.new result }
 {
-    let mut next = at;
+    let mut rest = text;
     let mut len = 0;
-    while let Some(byte) = hex_byte_at(s, next) {
-        store(buf, len, byte);
+    // A loop over pairs of bytes would say where the key ends by a sum of its own.
+    while let Some(byte) = hex_byte(rest) {
+        store(buf, len, byte.value);
         len += 1;
-        next += 2;
+        rest = byte.rest;
     }
-    Found { value: len, next }
+    Found { value: len, rest }
 }
 
 // A byte stored where there is room for it.
@@ -160,18 +147,18 @@ fn store(buf: &mut [u8], n: usize, b: u8)
 }
 
 // A byte as two hex digits.
-fn hex_byte_at(s: &[u8], at: usize) -> Option<u8>
-    requires { at ≤ length s.now }
-    ensures seen { byte_seen s.now at result ≡ hex_byte (drop at s.now) }
-    ensures inside { IfSome result (λ _. at + 2 ≤ length s.now) }
+fn hex_byte(text: &[u8]) -> Option<Found<u8>>
+    ensures { found_seen result ≡ hex_byte text.now }
 {
-    let [high, low, ..] = &s[at..] else {
+    let [high, low, rest @ ..] = text else {
         return None;
     };
-    Some(16 * hex_digit(*high)? + hex_digit(*low)?)
+    let value = 16 * hex_digit(*high)? + hex_digit(*low)?;
+    Some(Found { value, rest })
 }
 
 // A lower-case hex digit's number.
+#[tactic(auto, unfolding(crate::specs::CodeViews::hex_digit_seen, crate::specs::Read::nibble, crate::specs::Read::digit, base::specs::Pick::pick), using(std::proofs::lemmas::Bool::Decides::nat_tests))]
 fn hex_digit(b: u8) -> Option<u8>
     ensures { result ≡ hex_digit_seen b }
 {
@@ -182,58 +169,66 @@ fn hex_digit(b: u8) -> Option<u8>
     }
 }
 
-// A word, a decimal and a newline at a place of a sheet.
-fn word_number_at(s: &[u8], at: usize, w: &[u8]) -> Option<Found<u64>>
-    requires { at ≤ length s.now }
-    ensures { NumberRead (word_number w.now (drop at s.now)) s.now at result }
+// A word, a decimal and a newline.
+fn word_number<'a>(text: &'a [u8], word: &[u8]) -> Option<Found<'a, u64>>
+    ensures { found_seen result ≡ word_number word.now text.now }
 {
-    if !s[at..].starts_with(w) {
-        return None;
-    }
-    let number = number_at(s, at + w.len())?;
-    if !s[number.next..].starts_with(b"\n") {
-        return None;
-    }
+    let number = number(behind(text, word)?)?;
+    let rest = behind(number.rest, b"\n")?;
     Some(Found {
         value: number.value,
-        next: number.next + 1,
+        rest,
     })
 }
 
-// A decimal at a place of a sheet.
-fn number_at(s: &[u8], at: usize) -> Option<Found<u64>>
-    ensures { NumberRead (number (drop at s.now)) s.now at result }
+// The text behind a word.
+fn behind<'a>(text: &'a [u8], word: &[u8]) -> Option<&'a [u8]>
+    ensures there { IfSome result (λ rest. (word_at word.now text.now ≡ Bool.true) × (rest.now ≡ drop (length word.now) text.now)) }
+    ensures other { IfNone result (word_at word.now text.now ≡ Bool.false) }
 {
-    let first = digit_at(s, at)?;
-    if first == 0 {
-        return Some(Found {
-            value: 0,
-            next: at + 1,
-        });
+    if !text.starts_with(word) {
+        return None;
     }
-    digits_at(s, at + 1, u64::from(first))
+    Some(&text[word.len()..])
 }
 
-// The digits from `at` on, behind those that say x.
-fn digits_at(s: &[u8], at: usize, x: u64) -> Option<Found<u64>>
-    requires { at ≤ length s.now }
-    ensures { NumberRead (digits x (drop at s.now)) s.now at result }
+// A decimal.
+fn number(text: &[u8]) -> Option<Found<u64>>
+    ensures { found_seen result ≡ number text.now }
 {
-    let mut value = x;
-    let mut next = at;
-    while let Some(digit) = digit_at(s, next) {
-        value = value.checked_mul(10)?.checked_add(u64::from(digit))?;
-        next += 1;
+    let first = digit(text)?;
+    if first.value == 0 {
+        return Some(first);
     }
-    Some(Found { value, next })
+    digits(first.rest, first.value)
+}
+
+// The digits that stand there, behind those that say x.
+fn digits(text: &[u8], x: u64) -> Option<Found<u64>>
+    ensures { found_seen result ≡ digits x text.now }
+{
+    let mut rest = text;
+    let mut value = x;
+    // A loop over the bytes would say where the decimal ends by a sum of its own.
+    while let Some(digit) = digit(rest) {
+        value = value.checked_mul(10)?.checked_add(digit.value)?;
+        rest = digit.rest;
+    }
+    Some(Found { value, rest })
 }
 
 // A decimal digit's number.
-fn digit_at(s: &[u8], at: usize) -> Option<u8>
-    ensures { result ≡ digit_seen (drop at s.now) }
+fn digit(text: &[u8]) -> Option<Found<u64>>
+    ensures { found_seen result ≡ first_digit text.now }
 {
-    if at < s.len() && s[at].is_ascii_digit() {
-        return Some(s[at] - b'0');
+    let [b, rest @ ..] = text else {
+        return None;
+    };
+    if !b.is_ascii_digit() {
+        return None;
     }
-    None
+    Some(Found {
+        value: u64::from(*b - b'0'),
+        rest,
+    })
 }

@@ -1,19 +1,18 @@
 -- A step on a record in place: the record with the next slot's key in it is the record's step.
 use Rattle.std.specs.Prelude.{◌≡◌, ◌+◌, ◌≤◌, Some, None, Ok}
-use Rattle.base.specs.Kit.{refl, sym, ◌∙◌, ap, Bool, true, false, List, ℕ, arith, length, get_or}
+use Rattle.base.specs.Kit.{refl, sym, ◌∙◌, ap, true, false, List, ℕ, arith, length, get_or}
 use Rattle.base.specs.Pick.{pick}
-use Rattle.base.specs.Decline.{number_of}
+use Rattle.base.specs.Decline.{decline_number}
 use Rattle.key.specs.Part.{part}
 use Rattle.node.specs.Layout.{InSlot}
-use Rattle.record_step.specs.Types.{Slot, CursorPlace, Out, Past, HandedOut, Walk, WalkState, FindNext, Ended, Decline}
+use Rattle.record_step.specs.Types.{Slot, CursorPlace, HandedKey, HandedOut, Walk, WalkState, FindNext, Ended, Decline}
 use Rattle.cursor.specs.CursorKey.{with_ikey, with_length}
 use Rattle.search.specs.Traversal.{leaf_there}
 use Rattle.moves.specs.Moves.{onward, is_storable, key_place, key_buf}
 use Rattle.moves.specs.CodeMoves.{InRange}
-use Rattle.moves.specs.CodeFastPath.{fast_slot, next_key}
+use Rattle.moves.specs.CodeFastPath.{fast_slot, next_of}
 use Rattle.search.proofs.Laws.{leaf_there_lem}
-use Rattle.moves.proofs.StoredKey.{key_fits}
-use Rattle.moves.proofs.FastLaws.{fast_facts, next_place}
+use Rattle.moves.proofs.FastLaws.{fast_facts}
 use Rattle.walk.specs.Walk.{one_more, walk_ok, answer_numbers}
 use Rattle.scan.specs.Machine.{is_ended, key_out, ctx_of, walk_of, after_key}
 use Rattle.scan.specs.CodeLoop.{no_leaf}
@@ -25,7 +24,6 @@ use Rattle.walk_record.specs.CodeLaid.{read_handed}
 use Rattle.record_step.specs.Step.{said_in}
 use Rattle.record_step.specs.CodeInPlace.{numbers_ok, place_of, key_numbers}
 use Rattle.record_step.specs.CodeStep.{StepMade}
-use Rattle.walk_record.proofs.Told.{Lengths, record_told}
 use Rattle.walk_record.proofs.Inverse.{walk_inverse}
 use Rattle.record_step.proofs.Steps.{declined, taken}
 
@@ -40,8 +38,7 @@ unfolding key_numbers numbers_of onward
 put_in w k b state handed e = rw e
 
 -- What the code asks of a record whose walk's next slot is fast.
-pub record Steppable (n b k image : List ℕ) (slot : Slot) : Type 0 where
-  pub lengths : Lengths (length n) (length b) (length k)
+pub record Steppable (n image : List ℕ) (slot : Slot) : Type 0 where
   pub in_slot : InSlot image (get_or n leaf_at 0) slot
   pub offset-fits : get_or n offset_at 0 ≤ 248
   pub storable : is_storable image (get_or n leaf_at 0) slot (get_or n offset_at 0) ≡ true
@@ -71,13 +68,12 @@ module _ (n b k image : List ℕ) (is : is_record n b k ≡ true) (ok : numbers_
   offset_low = omega (arith, in-numbers.place, in-numbers.deep)
 
   module _ (there : leaf_there image (get_or n leaf_at 0) ≡ true) (slot : Slot) (e : fast_slot image (get_or n leaf_at 0) (record { 0 = get_or n position_at 0 }) (place_of n) ≡ Some slot) where
-    pub ready : Steppable n b k image slot
+    pub ready : Steppable n image slot
     unfolding read_walk
     ready =
         let f = fast_facts _ _ _ _ _ e in
         let o = walk-fits w _ walk_ok_lem in
         record {
-          lengths = (record_told n b k is).lengths;
           in_slot = (omega (arith, leaf_there_lem image _ there), f.fifteen);
           offset-fits = offset_low;
           storable = f.storable;
@@ -87,12 +83,9 @@ module _ (n b k image : List ℕ) (is : is_record n b k ≡ true) (ok : numbers_
           count_fits = o.count_fits;
         }
 
-    pub key-fits_in : (key_place image (get_or n leaf_at 0) slot (place_of n)).offset + (key_place image (get_or n leaf_at 0) slot (place_of n)).len ≤ 256
-    key-fits_in = key_fits image _ slot (place_of n) offset_low ready.storable
-
   module _ (out : List ℕ) (said_fits : length out ≡ said_in) where
     -- its leaf is not there
-    pub leaf_gone : leaf_there image (get_or n leaf_at 0) ≡ false → (d : Decline) → d ≡ no_leaf (length image) → StepMade n b k image out (number_of d) n b out
+    pub leaf_gone : leaf_there image (get_or n leaf_at 0) ≡ false → (d : Decline) → d ≡ no_leaf (length image) → StepMade n b k image out (decline_number d) n b out
     unfolding read_walk
     leaf_gone e d f =
         declined n b k image out said_fits is w refl _ (step.gone w image walk-next e d f ∙ step_advances w image walk_ok_lem (ap is_ended walk-next)) d refl
@@ -100,30 +93,31 @@ module _ (n b k image : List ℕ) (is : is_record n b k ≡ true) (ok : numbers_
     -- its next slot is fast: c and buf are cursor and buffer with the key
     module _ (there : leaf_there image (get_or n leaf_at 0) ≡ true) (slot : Slot) (e : fast_slot image (get_or n leaf_at 0) (record { 0 = get_or n position_at 0 }) (place_of n) ≡ Some slot)
         (bytes : List ℕ) (eb : bytes ≡ part k 0 (get_or n bound_len_at 0))
-        (c : CursorPlace) (buf : List ℕ) (ek : buf ≡ key_buf image (get_or n leaf_at 0) slot (get_or n offset_at 0) b) (out' : List ℕ) where
-      offset-is : c ≡ key_place image (get_or n leaf_at 0) slot (place_of n) → c.offset ≡ w.cursor.offset
+        (c : CursorPlace) (ec : c ≡ key_place image (get_or n leaf_at 0) slot (place_of n))
+        (buf : List ℕ) (ek : buf ≡ key_buf image (get_or n leaf_at 0) slot (get_or n offset_at 0) b) (out' : List ℕ) where
+      offset-is : c.offset ≡ w.cursor.offset
       unfolding key_place with_ikey with_length read_walk
-      offset-is f = ap (λ (x : CursorPlace). x.offset) f
+      offset-is = ap (λ (x : CursorPlace). x.offset) ec
 
-      written : (state : WalkState) (handed : HandedOut) → c.offset ≡ w.cursor.offset
+      written : (state : WalkState) (handed : HandedOut)
           → key_numbers n c state handed ≡ numbers_of (walk_of w state handed (record { ctx = onward (ctx_of w) c c.ikey; buf = buf; stack = w.stack }))
-      written state handed f = sym (ap (λ (l : List ℕ). key_numbers l c state handed) (walk_inverse n b k is).0) ∙ put_in w c buf state handed f
+      written state handed = sym (ap (λ (l : List ℕ). key_numbers l c state handed) (walk_inverse n b k is).0) ∙ put_in w c buf state handed offset-is
 
-      pub key-out : (value : ℕ) (last : Bool) → Out c value last ≡ next_key image (get_or n kind_at 0) bytes b (get_or n leaf_at 0) slot (place_of n)
+      pub key-out : (h : HandedKey) → Some h ≡ next_of image (get_or n kind_at 0) bytes buf (get_or n leaf_at 0) slot c
           → (handed : HandedOut) → handed ≡ one_more (read_handed n) (get_or n depth_at 0)
-          → out' ≡ answer_numbers (key_out (c.offset + c.len) value) 1 handed → StepMade n b k image out 0 (key_numbers n c (after_key last) handed) buf out'
+          → out' ≡ answer_numbers (key_out (c.offset + c.len) h.value) 1 handed → StepMade n b k image out 0 (key_numbers n c (after_key h.last) handed) buf out'
       unfolding read_walk read_handed onward
-      key-out value last f handed eh eo =
-          taken n b k image out said_fits is w refl _ (step.out w image walk-next there slot e bytes eb c buf ek value last f ∙ step_advances w image walk_ok_lem (ap is_ended walk-next)) _ refl _ _ _
-          (rw eh (written (after_key last) _ (offset-is (next_place image _ _ b _ slot _ _ f)))) refl (rw eh at eo)
+      key-out h f handed eh eo =
+          taken n b k image out said_fits is w refl _ (step.out w image walk-next there slot e bytes eb c ec buf ek h f ∙ step_advances w image walk_ok_lem (ap is_ended walk-next)) _ refl _ _ _
+          (rw eh (written (after_key h.last) _)) refl (rw eh at eo)
 
-      pub key-past : Past c ≡ next_key image (get_or n kind_at 0) bytes b (get_or n leaf_at 0) slot (place_of n)
+      pub key-past : None ≡ next_of image (get_or n kind_at 0) bytes buf (get_or n leaf_at 0) slot c
           → (handed : HandedOut) → handed ≡ read_handed n
           → out' ≡ answer_numbers (Ok None) 1 handed → StepMade n b k image out 0 (key_numbers n c Ended handed) buf out'
       unfolding read_walk read_handed
       key-past f handed eh eo =
-          taken n b k image out said_fits is w refl _ (step.past w image walk-next there slot e bytes eb c buf ek f ∙ step_advances w image walk_ok_lem (ap is_ended walk-next)) _ refl _ _ _
-          (rw eh (written Ended _ (offset-is (next_place image _ _ b _ slot _ _ f)))) refl (rw eh at eo)
+          taken n b k image out said_fits is w refl _ (step.past w image walk-next there slot e bytes eb c ec buf ek f ∙ step_advances w image walk_ok_lem (ap is_ended walk-next)) _ refl _ _ _
+          (rw eh (written Ended _)) refl (rw eh at eo)
 
 -- a record that was tested: its walk was
 pub read-tested : (n b k image : List ℕ) → is_record n b k ≡ true → (w : Walk) → w ≡ read_walk n b k

@@ -3,9 +3,9 @@
 use Rattle.std.specs.Prelude.{◌≡◌, Some, None, Ok, Err}
 use Rattle.base.specs.Kit.{refl, ap, subst, Bool, true, not, List, ℕ, length, take, not-false}
 use Rattle.base.proofs.Choice.{pick_ind}
-use Rattle.record_step.specs.Types.{RangeBound, Walk, Answer, Stepped}
+use Rattle.record_step.specs.Types.{Held, RangeBound, Walk, Answer, Stepped}
 use Rattle.walk.specs.Walk.{walk_ok}
-use Rattle.scan.specs.Machine.{Scan, run, is_ended, scan_of, stepped, finished, advance, step}
+use Rattle.scan.specs.Machine.{run, is_ended, scan_of, stepped, finished, advance, step}
 use Rattle.scan.proofs.BeginLaws.{starts_between}
 use Rattle.scan.proofs.Kept.{Long, run-kept}
 use Rattle.walk_record.specs.Record.{numbers_of, entries, read_walk, is_record}
@@ -18,7 +18,7 @@ abbrev Same : Walk → Stepped → Type 0
 Same w r = Arrays r.walk × (r.walk.bound ≡ w.bound)
 
 module _ (w : Walk) (a : Arrays w) where
-  stepped_kept : (answer : Answer) (last : Bool) (moves : ℕ) (s : Scan) → Long s → Same w (stepped w answer last moves s)
+  stepped_kept : (answer : Answer) (last : Bool) (moves : ℕ) (s : Held) → Long s → Same w (stepped w answer last moves s)
   stepped_kept (Ok (Some key)) last moves s l = (record { stack_is = l.1; buf-is = l.0; key-is = a.key-is; kind_fits = a.kind_fits }, refl)
   stepped_kept (Ok None) last moves s l = (record { stack_is = l.1; buf-is = l.0; key-is = a.key-is; kind_fits = a.kind_fits }, refl)
   stepped_kept (Err d) last moves s l = (a, refl)

@@ -2,10 +2,10 @@
 use Rattle.std.specs.Prelude.{◌≡◌, Option, Ok, Err}
 use Rattle.base.specs.Kit.{sym, ap, ◌∙◌, true, false, List, ℕ, arith, length, eq-eqb, ne_eqb}
 use Rattle.base.specs.Pick.{pick}
-use Rattle.base.specs.Decline.{number_of}
+use Rattle.base.specs.Decline.{decline_number}
 use Rattle.base.specs.declared.Decline.{Decline}
 use Rattle.walk.specs.Walk.{number_of as walk_number, answer_numbers}
-use Rattle.walk.proofs.PlaceLaws.{not-zero}
+use Rattle.base.proofs.Declines.{never-zero}
 use Rattle.scan.specs.Machine.{step}
 use Rattle.record_step.specs.Types.{Walk, KeyOut, Stepped}
 use Rattle.walk_record.specs.Record.{is_record, read_walk, numbers_of}
@@ -18,12 +18,6 @@ module _ (n b k image out : List ℕ) where
       → StepMade n b k image out r n b out
   unfolding step_numbers step_buf step_out left pick
   same r e h = record { number = e; numbers-left = rw (← e, ne_eqb r 0 h); buf-left = rw (← e, ne_eqb r 0 h); out-left = rw (← e, ne_eqb r 0 h) }
-
-  -- no room for the answer
-  pub no_room : (length out ≡ said_in → ⊥)
-      → StepMade n b k image out 21 n b out
-  unfolding step_number pick
-  no_room h = same 21 (rw (ne_eqb _ _ h)) (λ e. omega arith)
 
   module _ (room : length out ≡ said_in) where
     -- a record that is no walk's
@@ -39,9 +33,9 @@ module _ (n b k image out : List ℕ) where
       number = rw (made, read, eq-eqb _ _ room, is)
 
       pub declined : (d : Decline) → s.answer ≡ Err d
-          → StepMade n b k image out (number_of d) n b out
+          → StepMade n b k image out (decline_number d) n b out
       unfolding walk_number
-      declined d e = same (number_of d) (ap walk_number (sym e) ∙ number) (not-zero d)
+      declined d e = same (decline_number d) (ap walk_number (sym e) ∙ number) (never-zero d)
 
       pub taken : (key : Option KeyOut) → s.answer ≡ Ok key
           → (n' b' out' : List ℕ) → n' ≡ numbers_of s.walk → b' ≡ s.walk.cursor.buf → out' ≡ answer_numbers s.answer s.moves s.handed

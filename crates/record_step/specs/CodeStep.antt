@@ -2,7 +2,7 @@
 -- with is punchbronze's.
 use Rattle.std.specs.Prelude.{◌≡◌, Result, Ok, Err}
 use Rattle.base.specs.Kit.{List, ℕ}
-use Rattle.base.specs.Decline.{number_of}
+use Rattle.base.specs.Decline.{decline_number}
 use Rattle.base.specs.declared.Decline.{Decline}
 use Rattle.walk.specs.Walk.{answer_numbers}
 use Rattle.record_step.specs.Step.{step_of, step_number, left, step_numbers, step_buf}
@@ -10,7 +10,7 @@ use Rattle.record_step.specs.Step.{step_of, step_number, left, step_numbers, ste
 -- The number of a step that is made, 0, or of its decline.
 abbrev pub number_made : Result Unit Decline → ℕ
 number_made (Ok made) = 0
-number_made (Err d) = number_of d
+number_made (Err d) = decline_number d
 
 unfoldable pub step_out : List ℕ → List ℕ → List ℕ → List ℕ → List ℕ → List ℕ
 step_out numbers buf bound image out =

@@ -2,7 +2,7 @@
 pub use Rattle.base.specs.declared.Decline.{Decline}
 pub use Rattle.cursor.specs.declared.cursor_key.CursorPlace.{CursorPlace}
 pub use Rattle.cursor.specs.declared.range_bound.RangeBound.{RangeBound}
-pub use Rattle.moves.specs.declared.fast_path.NextKey.TheVariants.{Out, Past}
+pub use Rattle.moves.specs.declared.fast_path.HandedKey.{HandedKey}
 pub use Rattle.node.specs.declared.permuter.Slot.{Slot}
 pub use Rattle.walk.specs.Types.{Answer}
 pub use Rattle.walk.specs.declared.scan_state.HandedOut.{HandedOut}
@@ -11,3 +11,4 @@ pub use Rattle.walk.specs.declared.scan_state.Stepped.{Stepped}
 pub use Rattle.walk.specs.declared.scan_state.Walk.{Walk}
 pub use Rattle.walk.specs.declared.scan_state.WalkState.{WalkState}
 pub use Rattle.walk.specs.declared.scan_state.WalkState.TheVariants.{FindNext, Ended}
+pub use Rattle.scan.specs.declared.scan_ctx.Held.{Held}

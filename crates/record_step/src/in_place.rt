@@ -1,8 +1,8 @@
 // A record's numbers, read and changed where they are, for the step that hands out the next slot's key.
 ghost use Rattle.std.specs.Prelude.{◌≡◌, ◌^◌, ◌≤◌, ◌<◌};
-ghost use Rattle.base.specs.Kit.{length, get_or};
+ghost use Rattle.base.specs.Kit.{get_or};
 ghost use Rattle.walk.specs.Walk.{one_more};
-ghost use Rattle.walk_record.specs.Record.{numbers_in, position_at, depth_at, count_at};
+ghost use Rattle.walk_record.specs.Record.{position_at, depth_at, count_at};
 ghost use Rattle.walk_record.specs.CodeLaid.{read_handed};
 ghost use Rattle.record_step.specs.CodeInPlace.{numbers_ok, place_of, key_numbers};
 
@@ -14,8 +14,7 @@ use walk_record::{layout, record};
 
 // Whether a record's numbers are in range, over an image of n bytes (01's 21).
 #[tactic(auto, unfolding(crate::specs::CodeInPlace::numbers_ok, walk_record::specs::Record::read_walk, walk::specs::Walk::walk_ok))]
-pub fn is_numbers_ok(numbers: &[u64], n: usize) -> bool
-    requires { length numbers.now ≡ numbers_in }
+pub fn is_numbers_ok(numbers: &[u64; layout::NUMBERS], n: usize) -> bool
     ensures { result ≡ numbers_ok numbers.now n }
 {
     let walk = WalkNumbers {
@@ -33,8 +32,7 @@ pub fn is_numbers_ok(numbers: &[u64], n: usize) -> bool
 }
 
 // The cursor of a record's walk.
-pub fn place_of(numbers: &[u64]) -> CursorPlace
-    requires { length numbers.now ≡ numbers_in }
+pub fn place_of(numbers: &[u64; layout::NUMBERS]) -> CursorPlace
     ensures { result ≡ place_of numbers.now }
 {
     CursorPlace {
@@ -46,9 +44,8 @@ pub fn place_of(numbers: &[u64]) -> CursorPlace
 
 // What a record's walk has handed out with one key more, which is found at the walk's depth.
 #[tactic(auto, unfolding(walk_record::specs::CodeLaid::read_handed))]
-pub fn one_more_of(numbers: &[u64]) -> HandedOut
-    requires numbers_len { length numbers.now ≡ numbers_in }
-    requires count_at_bound { get_or numbers.now count_at 0 < 2 ^ 63 }
+pub fn one_more_of(numbers: &[u64; layout::NUMBERS]) -> HandedOut
+    requires { get_or numbers.now count_at 0 < 2 ^ 63 }
     ensures { result ≡ one_more (read_handed numbers.now) (get_or numbers.now depth_at 0) }
 {
     handed_out::one_more(
@@ -59,9 +56,13 @@ pub fn one_more_of(numbers: &[u64]) -> HandedOut
 
 // The numbers one position on, with a key, a state, and what the walk has handed out.
 #[tactic(auto, unfolding(crate::specs::CodeInPlace::key_numbers))]
-pub fn put_key(numbers: &mut [u64], k: CursorPlace, state: WalkState, handed: HandedOut)
-    requires numbers_len { length numbers.old ≡ numbers_in }
-    requires position_at_bound { get_or numbers.old position_at 0 ≤ 15 }
+pub fn put_key(
+    numbers: &mut [u64; layout::NUMBERS],
+    k: CursorPlace,
+    state: WalkState,
+    handed: HandedOut,
+)
+    requires { get_or numbers.old position_at 0 ≤ 15 }
     ensures { numbers.new ≡ key_numbers numbers.old k state handed }
 {
     numbers[layout::POSITION] += 1;

@@ -1,6 +1,6 @@
 // A step of a walk's record.
 //
-// Interface: `step::step_record`, which asks that the record is a walk's (`record::is_record`) and that there is room for the answer.
+// Interface: `step::step_record`, which asks that a walk can be read of the record's numbers (`record::is_readable`).
 #![tactic(auto)]
 
 mod in_place;

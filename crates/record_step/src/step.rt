@@ -7,17 +7,16 @@ ghost use Rattle.moves.specs.CodeFastPath.{fast_slot};
 ghost use Rattle.record_step.specs.Types.{FindNext};
 ghost use Rattle.walk.specs.Walk.{walk_ok};
 ghost use Rattle.scan.specs.Machine.{step};
-ghost use Rattle.walk_record.specs.Record.{leaf_at, position_at, state_at, state_number, is_record};
+ghost use Rattle.walk_record.specs.Record.{leaf_at, position_at, state_at, state_number, is_readable};
 ghost use Rattle.record_step.specs.CodeInPlace.{numbers_ok, place_of};
-ghost use Rattle.record_step.specs.Step.{said_in};
 ghost use Rattle.record_step.specs.CodeStep.{number_made, StepMade};
 
 use crate::in_place;
 use base::Decline;
 use cursor::range_bound::End;
-use moves::fast_path::NextKey;
+use moves::fast_path::HandedKey;
 use moves::{fast_path, stored_key};
-use node::leaf::LeafReader;
+use node::leaf::{LeafReader, SlotReader};
 use node::permuter::{Position, Slot};
 use scan::forward_ctx;
 use search::traversal;
@@ -25,29 +24,31 @@ use walk::answer;
 use walk::scan_state::{KeyOut, Stepped, Walk, WalkState};
 use walk_record::{layout, record};
 
-// A step of a walk. `tested` tells that its first move has tested its leaf's version.
+// A step of a walk. `tested` tells that its first move has tested its leaf's version (docs/DECISIONS.md S16).
+#[tactic(auto, using(scan::proofs::BeginLaws::step_advances))]
 fn step_of(walk: Walk, image: &[u8], tested: bool) -> Stepped
     requires { tested ≡ true → (walk_ok walk (length image.now) ≡ true) × (walk.state ≡ FindNext) × (leaf_there image.now walk.leaf ≡ true) }
     ensures { result ≡ step walk image.now }
 {
     if tested {
-        forward_ctx::advance_no_alloc(walk, image, true)
+        forward_ctx::advance_no_alloc(&walk, image, true)
     } else {
         scan::step::step(walk, image)
     }
 }
 
-// The step by way of the record's walk. The slices go one by one, as C lends them.
+// The step by way of the record's walk.
+// (The slices go one by one, as C lends them: a struct of them would ask nothing, and promise in each function to hold the same ones.)
+#[tactic(auto, using(walk_record::proofs::Told::readable_kind))]
 fn step_walk(
-    numbers: &mut [u64],
-    buf: &mut [u8],
-    bound: &[u8],
+    numbers: &mut [u64; layout::NUMBERS],
+    buf: &mut [u8; 256],
+    bound: &[u8; 256],
     image: &[u8],
-    out: &mut [u64],
+    out: &mut [u64; 6],
     tested: bool,
 ) -> Result<(), Decline>
-    requires out_len { length out.old ≡ said_in }
-    requires bound_value { is_record numbers.old buf.old bound.now ≡ true }
+    requires numbers_readable { is_readable numbers.old ≡ true }
     requires image_value { tested ≡ true → (numbers_ok numbers.old (length image.now) ≡ true) × (get_or numbers.old state_at 0 ≡ state_number FindNext) × (leaf_there image.now (get_or numbers.old leaf_at 0) ≡ true) }
     ensures { StepMade numbers.old buf.old bound.now image.now out.old (number_made result) numbers.new buf.new out.new }
 {
@@ -60,15 +61,14 @@ fn step_walk(
 
 // The step that hands out a fast slot's key, or ends by it: the key goes into the buffer, and the numbers are changed in place.
 fn step_fast(
-    numbers: &mut [u64],
-    buf: &mut [u8],
-    bound: &[u8],
+    numbers: &mut [u64; layout::NUMBERS],
+    buf: &mut [u8; 256],
+    bound: &[u8; 256],
     image: &[u8],
-    out: &mut [u64],
+    out: &mut [u64; 6],
     slot: Slot,
 )
-    requires out_len { length out.old ≡ said_in }
-    requires bound_value { is_record numbers.old buf.old bound.now ≡ true }
+    requires numbers_readable { is_readable numbers.old ≡ true }
     requires image_value { numbers_ok numbers.old (length image.now) ≡ true }
     requires state_at_value { get_or numbers.old state_at 0 ≡ state_number FindNext }
     requires leaf_at_value { leaf_there image.now (get_or numbers.old leaf_at 0) ≡ true }
@@ -84,18 +84,19 @@ fn step_fast(
         image,
         at: numbers[layout::LEAF] as usize,
     };
-    let stored = stored_key::store_key(leaf, slot, buf, k);
-    match fast_path::hand_out(leaf, end, buf, slot, stored) {
-        NextKey::Out { k, value, last } => {
-            let len = k.offset + k.len;
+    let s = SlotReader { leaf, slot };
+    let stored = stored_key::store_key(s, buf, k);
+    match fast_path::hand_out(s, end, buf, stored) {
+        Some(HandedKey { value, last }) => {
+            let len = stored.offset + stored.len;
             let handed = in_place::one_more_of(numbers);
-            in_place::put_key(numbers, k, forward_ctx::after_key(last), handed);
+            in_place::put_key(numbers, stored, forward_ctx::after_key(last), handed);
             let key = Ok(Some(KeyOut { len, value }));
             out.copy_from_slice(&answer::answer_numbers(key, 1, handed));
         }
-        NextKey::Past(k) => {
+        None => {
             let handed = record::read_handed(numbers);
-            in_place::put_key(numbers, k, WalkState::Ended, handed);
+            in_place::put_key(numbers, stored, WalkState::Ended, handed);
             out.copy_from_slice(&answer::answer_numbers(Ok(None), 1, handed));
         }
     }
@@ -103,14 +104,13 @@ fn step_fast(
 
 // The step of a record whose walk has handed out a key.
 fn step_next(
-    numbers: &mut [u64],
-    buf: &mut [u8],
-    bound: &[u8],
+    numbers: &mut [u64; layout::NUMBERS],
+    buf: &mut [u8; 256],
+    bound: &[u8; 256],
     image: &[u8],
-    out: &mut [u64],
+    out: &mut [u64; 6],
 ) -> Result<(), Decline>
-    requires out_len { length out.old ≡ said_in }
-    requires bound_value { is_record numbers.old buf.old bound.now ≡ true }
+    requires numbers_readable { is_readable numbers.old ≡ true }
     requires image_value { numbers_ok numbers.old (length image.now) ≡ true }
     requires state_at_value { get_or numbers.old state_at 0 ≡ state_number FindNext }
     ensures { StepMade numbers.old buf.old bound.now image.now out.old (number_made result) numbers.new buf.new out.new }
@@ -133,22 +133,21 @@ fn step_next(
     }
 }
 
-// A step of a record that is a walk's.
+// A step of a record that a walk can be read of.
 pub fn step_record(
-    numbers: &mut [u64],
-    buf: &mut [u8],
-    bound: &[u8],
+    numbers: &mut [u64; layout::NUMBERS],
+    buf: &mut [u8; 256],
+    bound: &[u8; 256],
     image: &[u8],
-    out: &mut [u64],
+    out: &mut [u64; 6],
 ) -> Result<(), Decline>
-    requires out_len { length out.old ≡ said_in }
-    requires bound_value { is_record numbers.old buf.old bound.now ≡ true }
+    requires { is_readable numbers.old ≡ true }
     ensures { StepMade numbers.old buf.old bound.now image.now out.old (number_made result) numbers.new buf.new out.new }
 {
-    if numbers[layout::STATE] == record::state_number(WalkState::FindNext) {
-        if in_place::is_numbers_ok(numbers, image.len()) {
-            return step_next(numbers, buf, bound, image, out);
-        }
+    if numbers[layout::STATE] == record::state_number(WalkState::FindNext)
+        && in_place::is_numbers_ok(numbers, image.len())
+    {
+        return step_next(numbers, buf, bound, image, out);
     }
     step_walk(numbers, buf, bound, image, out, false)
 }

@@ -1,16 +1,23 @@
-// 02's examples of a walk, executed over the C interface: the requests of tools/examples.py, with changes (see `requests`): the walk's
-// record is altered by them before the first step, so that walks which no placing gives can be asked for. Every step is printed with its
-// moves, depth and count; where one is declined, with the record after it. A request may ask for the tally or the check, and nothing else
-// is looked at then but what they take.
+// 02's examples of a walk, executed over the C interface: the requests of tools/examples.py (see `requests`). Behind each stand its
+// alterations, their length in two bytes first: the walk's record is altered by them before the first step, so that walks which no
+// placing gives can be asked for. Every step is printed with its moves, depth and count; where one is declined, with the record after it. A
+// request may ask for the tally or the check, and nothing else is looked at then but what they take.
 #![tactic(auto)]
 
 use key::first;
 use node::le;
-use requests::{KeyText, Mode, Request, Requests};
-use std::{fmt, io};
+use requests::{KeyText, Mode, Request, line};
+use std::fmt;
 use walk_record::layout;
 
+// The requests: more than there are.
+const MOST: usize = 1000;
+
+// The most bytes of a request's alterations.
+const CHANGES: usize = 512;
+
 // What a request asks for.
+#[derive(Clone, Copy)]
 enum Form {
     Walk,
     Tally,
@@ -53,16 +60,16 @@ impl Record {
     }
 
     // The placing's number; the short form is placed above.
-    fn place(&mut self, request: &Request) -> u8 {
+    fn place(&mut self, request: &Request<Form>) -> u8 {
         let Record {
             numbers,
             buf,
             bound,
         } = self;
-        let image = &request.image;
-        let cursor = &request.cursor;
+        let image = request.image;
+        let cursor = request.cursor;
         let kind = request.kind;
-        let key = &request.bound;
+        let key = request.bound;
         match request.mode {
             Mode::From => {
                 punchbronze::pb_place_from(image, cursor, kind, key, numbers, buf, bound)
@@ -86,7 +93,7 @@ impl Record {
     }
 
     // One step; whether it handed out a key.
-    fn step(&mut self, rt: &impl Print, name: &str, image: &[u8]) -> io::Result<bool> {
+    fn step(&mut self, rt: &impl Print, name: &[u8], image: &[u8]) -> bool {
         let mut out = [7u64; 6];
         let code = punchbronze::pb_step(
             &mut self.numbers,
@@ -96,17 +103,19 @@ impl Record {
             &mut out,
         );
         if code != 0 {
-            println!(rt; "{name} declined {code}{}{}", Numbers(self), Said(out))?;
-            return Ok(false);
+            let after = format_args!(" declined {code}{}{}", Numbers(self), Said(out));
+            line(rt, name, after);
+            return false;
         }
         let [is_key, len, value, moves, depth, count] = out;
+        let handed = format_args!("moves {moves} depth {depth} count {count}");
         if is_key == 1 {
             let key = KeyText(first(&self.buf, len as usize));
-            println!(rt; "{name} key {key} {value} moves {moves} depth {depth} count {count}")?;
+            line(rt, name, format_args!(" key {key} {value} {handed}"));
         } else {
-            println!(rt; "{name} none moves {moves} depth {depth} count {count}")?;
+            line(rt, name, format_args!(" none {handed}"));
         }
-        Ok(is_key == 1)
+        is_key == 1
     }
 }
 
@@ -154,60 +163,70 @@ impl fmt::Display for Said {
 }
 
 // The placing, the alterations, and the steps up to the first that hands out no key.
-fn walk(rt: &impl Print, request: &Request) -> io::Result<()> {
-    let name = request.name.as_str();
+fn walk(rt: &impl Print, request: &Request<Form>, changes: &[u8]) {
     let mut record = Record::new();
     let code = record.place(request);
-    println!(rt; "{name} placed {code}")?;
+    line(rt, request.name, format_args!(" placed {code}"));
     if code != 0 {
-        return Ok(());
+        return;
     }
-    record.alter(&request.changes);
+    record.alter(changes);
     for _ in 0..STEPS {
-        if !record.step(rt, name, &request.image)? {
+        if !record.step(rt, request.name, request.image) {
             break;
         }
     }
-    Ok(())
 }
 
 // The check's number, and its three numbers.
-fn check(rt: &impl Print, request: &Request) -> io::Result<()> {
+fn check(rt: &impl Print, request: &Request<Form>) {
     let mut counts = [7u64; 3];
-    let code = punchbronze::pb_check(&request.image, &mut counts);
+    let code = punchbronze::pb_check(request.image, &mut counts);
     let [leaves, values, layers] = counts;
-    println!(rt;
-        "{} check {code} leaves {leaves} values {values} layers {layers}",
-        request.name
-    )
+    line(
+        rt,
+        request.name,
+        format_args!(" check {code} leaves {leaves} values {values} layers {layers}"),
+    );
 }
 
 // The tally's number, and its count.
-fn tally(rt: &impl Print, request: &Request) -> io::Result<()> {
+fn tally(rt: &impl Print, request: &Request<Form>) {
     let mut out = [7u64; 1];
     let code = punchbronze::pb_tally(
-        &request.image,
-        &request.cursor,
+        request.image,
+        request.cursor,
         request.kind,
-        &request.bound,
+        request.bound,
         &mut out,
     );
-    println!(rt; "{} tally {code} count {}", request.name, out[0])
+    let [count] = out;
+    line(
+        rt,
+        request.name,
+        format_args!(" tally {code} count {count}"),
+    );
 }
 
-fn run(rt: &(impl Input + Print + AllocGlobal)) -> io::Result<()> {
-    for request in Requests::new(rt.alloc(), rt.reader()).with_changes() {
-        let request = request?;
-        match Form::from(request.form) {
-            Form::Walk => walk(rt, &request)?,
-            Form::Tally => tally(rt, &request)?,
-            Form::Check => check(rt, &request)?,
-        }
+fn answer(rt: &impl Print, request: &Request<Form>, changes: &[u8]) {
+    match request.form {
+        Form::Walk => walk(rt, request, changes),
+        Form::Tally => tally(rt, request),
+        Form::Check => check(rt, request),
     }
-    Ok(())
 }
 
-// An output that fails is passed over.
 fn main(rt: HostRuntime) {
-    let _ = run(&rt);
+    let mut input = rt.reader();
+    let mut space = [0u8; requests::SPACE];
+    let mut changes = [0u8; CHANGES];
+    for _ in 0..MOST {
+        let Some(request) = requests::read(&mut input, &mut space) else {
+            return;
+        };
+        let Some(changes) = requests::field(&mut input, 2, &mut changes) else {
+            return;
+        };
+        answer(&rt, &request, changes);
+    }
 }

@@ -1,34 +1,40 @@
 // Reads requests from standard input, and shows keys. A request is a name's length and the name; the form, the start mode and the
 // bound's kind, a byte each; the cursor's length in two bytes and the cursor; the bound key's likewise and the key; the image's length
-// in four and the image, at most 65,536 bytes. One with changes has behind it their length in two bytes and the changes.
+// in four and the image. What a program reads behind it, it reads by `field`.
 //
-// A read that fails counts as the input's end, as do a length past its limit and a name that is no text. Memory that runs out is an
-// error.
+// What is read stands in a space that the caller lends: there is no heap. A read that fails counts as the input's end, as does a length
+// whose bytes the space cannot hold; a name is any bytes.
 //
-// Interface: `Requests`, an iterator, and `KeyText`, which shows a key. specs/Requests.antt has what holds of what is read, the input
-// itself being free. None has a `requires`.
+// Interface: `read`, with `Request` and `Mode`, and `field`; `line`, which prints, and `KeyText`, which shows a key. specs/Requests.antt has
+// what holds of what is read, the input itself being free. None has a `requires`.
 #![tactic(auto)]
 
-ghost use Rattle.std.specs.Prelude.{◌≡◌, true, false, IfOk, IfSome};
-ghost use Rattle.std.specs.Iterator.{at_most};
-ghost use Rattle.requests.specs.Requests.{NamesMode, Within, Fits};
+ghost use Rattle.std.specs.Prelude.{◌≡◌, ◌≤◌, IfSome, length};
+ghost use Rattle.requests.specs.Requests.{NamesMode, Fits};
 
 use sheet::LINE;
-use std::alloc::Global;
-use std::io::{ErrorKind, Read};
-use std::{fmt, io};
+use std::fmt;
+use std::io::Read;
 
-/// A request. What its form means is each program's.
+// The most bytes of a name and of a key.
+const NAME: usize = 256;
+
+const KEY: usize = 512;
+
+/// The space for a request whose image has at most 65,536 bytes.
+pub const SPACE: usize = NAME + KEY + KEY + 65536;
+
+/// A request; `F` is the program's own, of its form.
 #[derive(Drop)]
-pub struct Request {
-    pub name: String,
-    pub form: u8,
+pub struct Request<'a, F> {
+    pub name: &'a [u8],
+    pub form: F,
     pub mode: Mode,
+    /// Any number, as a placing takes it.
     pub kind: u8,
-    pub cursor: Vec<u8>,
-    pub bound: Vec<u8>,
-    pub image: Vec<u8>,
-    pub changes: Vec<u8>,
+    pub cursor: &'a [u8],
+    pub bound: &'a [u8],
+    pub image: &'a [u8],
 }
 
 /// Where a request's walk starts: 0 is above the cursor, 1 from it, and any other the short form.
@@ -51,104 +57,53 @@ impl From<u8> for Mode {
     }
 }
 
-/// The requests of an input, up to its end.
-#[derive(Drop)]
-pub struct Requests<R> {
-    pub input: R,
-    pub alloc: Global,
-    pub has_changes: bool,
-    pub left: u64,
+// The number in the next bytes of the input, at most four.
+fn number(input: &mut impl Read, width: usize) -> Option<usize> {
+    let mut bytes = [0u8; 4];
+    input.read_exact(bytes.get_mut(..width)?).ok()?;
+    Some(u32::from_le_bytes(bytes) as usize)
 }
 
-impl<R: Read + Drop> Requests<R> {
-    /// The requests of an input, without changes.
-    pub fn new(alloc: Global, input: R) -> Requests<R>
-        ensures input { result.input ≡ input }
-        ensures plain { result.has_changes ≡ false }
-    {
-        Requests {
-            input,
-            alloc,
-            has_changes: false,
-            left: u64::MAX,
-        }
-    }
-
-    /// The same, with changes behind each.
-    pub fn with_changes(self) -> Requests<R>
-        ensures input { result.input ≡ self.input }
-        ensures changed { result.has_changes ≡ true }
-    {
-        Requests {
-            has_changes: true,
-            ..self
-        }
-    }
-
-    // The number in the next bytes of the input, at most four.
-    fn number(&mut self, width: usize) -> io::Result<usize> {
-        let mut bytes = [0u8; 4];
-        self.input.read_exact(&mut bytes[..width.min(4)])?;
-        Ok(u32::from_le_bytes(bytes) as usize)
-    }
-
-    // A length of so many bytes, and as many bytes as it says, which are no more than the limit.
-    fn field(&mut self, width: usize, limit: usize) -> io::Result<Vec<u8>>
-        ensures { IfOk result (λ bytes. Within limit bytes.items) }
-    {
-        let n = self.number(width)?;
-        if limit < n {
-            return Err(ErrorKind::InvalidData.into());
-        }
-        let mut bytes = vec![in self.alloc; 0; n]?;
-        self.input.read_exact(&mut bytes)?;
-        Ok(bytes)
-    }
-
-    fn read(&mut self) -> io::Result<Request>
-        ensures { IfOk result Fits }
-    {
-        let name = self.field(1, 256)?;
-        let mut how = [0u8; 3];
-        self.input.read_exact(&mut how)?;
-        let cursor = self.field(2, 512)?;
-        let bound = self.field(2, 512)?;
-        let image = self.field(4, 65536)?;
-        let changes = if self.has_changes {
-            self.field(2, 512)?
-        } else {
-            Vec::new(self.alloc)
-        };
-        let [form, mode, kind] = how;
-        Ok(Request {
-            name: String::from_utf8(name).map_err(|_| ErrorKind::InvalidData)?,
-            form,
-            mode: Mode::from(mode),
-            kind,
-            cursor,
-            bound,
-            image,
-            changes,
-        })
-    }
+/// A length of so many bytes, and as many bytes as it says, in the space that is lent.
+pub fn field<'a>(input: &mut impl Read, width: usize, space: &'a mut [u8]) -> Option<&'a [u8]>
+    ensures { IfSome result (λ bytes. length bytes.now ≤ length space.old) }
+{
+    let n = number(input, width)?;
+    let bytes = space.get_mut(..n)?;
+    input.read_exact(bytes).ok()?;
+    Some(bytes)
 }
 
-impl<R: Read + Drop> Iterator for Requests<R> {
-    type Item = io::Result<Request>;
+/// The next request of the input, in the space that is lent: 256 bytes for its name, 512 for each key, and the rest for its image.
+// (Each program has its own loop over it: an iterator hands out no slices of a space that is lent.)
+pub fn read<'a, F: From<u8>>(input: &mut impl Read, space: &'a mut [u8]) -> Option<Request<'a, F>>
+    ensures { IfSome result (Fits F (length space.old)) }
+{
+    let (name, rest) = space.split_at_mut_checked(NAME)?;
+    let (cursor, rest) = rest.split_at_mut_checked(KEY)?;
+    let (bound, image) = rest.split_at_mut_checked(KEY)?;
+    let name = field(input, 1, name)?;
+    let mut how = [0u8; 3];
+    input.read_exact(&mut how).ok()?;
+    let cursor = field(input, 2, cursor)?;
+    let bound = field(input, 2, bound)?;
+    let image = field(input, 4, image)?;
+    let [form, mode, kind] = how;
+    Some(Request {
+        name,
+        form: F::from(form),
+        mode: Mode::from(mode),
+        kind,
+        cursor,
+        bound,
+        image,
+    })
+}
 
-    ghost next_gives = { λ s r t. IfSome r (λ read. IfOk read Fits) };
-
-    ghost remaining = { λ s. at_most s.left };
-
-    fn next(&mut self) -> Option<io::Result<Request>> {
-        let left = self.left.checked_sub(1)?;
-        let read = self.read();
-        self.left = left;
-        match read {
-            Err(e) if e.kind() == ErrorKind::OutOfMemory => Some(Err(e)),
-            read => read.ok().map(Ok),
-        }
-    }
+/// Prints a line of a name and the rest; a write that fails is passed over.
+pub fn line(rt: &impl Print, name: &[u8], rest: impl fmt::Display + Drop) {
+    let _ = rt.write_all(name);
+    let _ = rt.println(rest);
 }
 
 /// A key in hex, `-` for none, as a sheet's line has it: cut from such a line, so that a key is written in hex in one place alone.

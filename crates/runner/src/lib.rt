@@ -1,20 +1,22 @@
 // Runs requests (see `requests`): reads them from standard input and prints their answers. Every line but those of the states begins with
 // the name.
 //
-// Interface: `run`, which has no `requires` and hands nothing back; where the output fails it ends.
+// Interface: `run`, which has no `requires` and hands nothing back; it goes on past a write that fails.
 #![tactic(auto)]
 
-use base::Decline;
+use base::{Decline, number_if};
 use cursor::range_bound;
 use cursor::range_bound::{Side, StartMode};
 use key::first;
-use requests::{KeyText, Mode, Request, Requests};
-use std::{fmt, io};
-use verify::Counts;
+use requests::{KeyText, Mode, Request, line};
+use std::fmt;
 use walk::placing::{place, place_short};
-use walk::scan_state::{KeyOut, Stepped, Walk};
+use walk::scan_state::{KeyOut, Placed, Stepped, Walk};
 
-// What a request asks for.
+// The requests: more than there are.
+const MOST: usize = 10000;
+
+// What a request asks for. (Tests of it choose what is printed; the steps are the same.)
 #[derive(Clone, Copy, PartialEq, Eq)]
 enum Form {
     // Every answer, and nothing more.
@@ -122,171 +124,167 @@ impl Form {
     }
 }
 
-// The walk of a request, placed.
-fn start(request: &Request) -> Result<Walk, Decline> {
-    let Request {
-        image,
-        cursor,
-        bound,
-        ..
-    } = request;
+// A request's placing.
+fn placed(request: &Request<Form>) -> Placed {
+    let image = request.image;
+    let cursor = request.cursor;
     let kind = request.kind;
-    let placed = match request.mode {
+    let bound = request.bound;
+    match request.mode {
         Mode::Above => place(image, StartMode::Above, cursor, kind, bound),
         Mode::From => place(image, StartMode::From, cursor, kind, bound),
         Mode::Short => place_short(image, cursor, kind, bound),
-    };
-    match placed.declined {
-        None => Ok(placed.walk),
-        Some(decline) => Err(decline),
     }
 }
 
 // A step's line in `States`.
-fn state_line(rt: &impl Print, step: &Stepped) -> io::Result<()> {
-    match step.answer {
+fn state_line(rt: &impl Print, step: &Stepped) {
+    let _ = match step.answer {
         Ok(Some(KeyOut { len, value })) => {
             let key = KeyText(first(&step.walk.cursor.buf, len));
             println!(rt; "key {key} {value} {}", State(step))
         }
         Ok(None) => println!(rt; "none {}", State(step)),
-        Err(decline) => println!(rt; "fault {}", u8::from(decline)),
-    }
+        Err(decline) => println!(rt; "fault {decline}"),
+    };
 }
 
 // The last lines of a walk that has come to its end.
-fn ending(rt: &impl Print, name: &str, form: Form, keys: usize, moves: usize) -> io::Result<()> {
-    match form {
-        Form::States => println!(rt; "total {moves}"),
-        Form::Total => println!(rt; "{name} keys {keys}\n{name} none"),
-        Form::Moves | Form::Lent => println!(rt; "{name} none\n{name} moves {moves}"),
-        _ => println!(rt; "{name} none"),
+fn ending(rt: &impl Print, name: &[u8], form: Form, keys: usize, moves: usize) {
+    if form == Form::States {
+        let _ = println!(rt; "total {moves}");
+        return;
     }
+    if form == Form::Total {
+        line(rt, name, format_args!(" keys {keys}"));
+    }
+    line(rt, name, " none");
+    if matches!(form, Form::Moves | Form::Lent) {
+        line(rt, name, format_args!(" moves {moves}"));
+    }
+}
+
+// A line that tells of a decline.
+fn declined(rt: &impl Print, name: &[u8], decline: Decline) {
+    line(rt, name, format_args!(" declined {decline}"));
 }
 
 // A step over an image eight bytes shorter: its number, and the walk after it.
-fn foreign(rt: &impl Print, request: &Request, walk: Walk) -> io::Result<Walk> {
+fn foreign(rt: &impl Print, request: &Request<Form>, walk: Walk) -> Walk {
     let Some(shorter) = request.image.len().checked_sub(8) else {
-        return Ok(walk);
+        return walk;
     };
-    let step = scan::step::step(walk, first(&request.image, shorter));
+    let step = scan::step::step(walk, first(request.image, shorter));
     if let Err(decline) = step.answer {
-        println!(rt; "{} declined {}", request.name, u8::from(decline))?;
+        declined(rt, request.name, decline);
     }
-    Ok(step.walk)
+    step.walk
 }
 
 // The answers of a walk, up to the first that is no key.
-fn answers(rt: &impl Print, request: &Request, form: Form, start: Walk) -> io::Result<()> {
-    let name = request.name.as_str();
+fn answers(rt: &impl Print, request: &Request<Form>, start: Walk) {
+    let name = request.name;
+    let form = request.form;
+    let image = request.image;
     let mut walk = start;
     let mut moves = 0usize;
-    for keys in 0..request.image.len() {
+    for keys in 0..image.len() {
         if form == Form::Foreign {
-            walk = foreign(rt, request, walk)?;
+            walk = foreign(rt, request, walk);
         }
-        let step = form.step(walk, &request.image);
+        let step = form.step(walk, image);
         walk = step.walk;
         moves = moves.wrapping_add(step.moves);
         if form == Form::States {
-            state_line(rt, &step)?;
+            state_line(rt, &step);
         }
         match step.answer {
             Ok(Some(KeyOut { len, value })) => {
                 if form.shows_keys() {
                     let key = KeyText(first(&walk.cursor.buf, len));
-                    println!(rt; "{name} key {key} {value}")?;
+                    line(rt, name, format_args!(" key {key} {value}"));
                 }
             }
             Ok(None) => return ending(rt, name, form, keys, moves),
             Err(_) if form == Form::States => break,
-            Err(decline) => return println!(rt; "{name} declined {}", u8::from(decline)),
+            Err(decline) => return declined(rt, name, decline),
         }
     }
-    Ok(())
 }
 
 // A placing's number, and where it was not declined the walk's answers.
-fn walked(rt: &impl Print, request: &Request, form: Form) -> io::Result<()> {
-    let name = request.name.as_str();
-    match start(request) {
-        Ok(walk) => {
-            println!(rt; "{name} placed 0")?;
-            answers(rt, request, form, walk)
-        }
-        Err(decline) => println!(rt; "{name} placed {}", u8::from(decline)),
+fn walked(rt: &impl Print, request: &Request<Form>) {
+    let placed = placed(request);
+    let number = number_if(placed.declined);
+    line(rt, request.name, format_args!(" placed {number}"));
+    if placed.declined.is_none() {
+        answers(rt, request, placed.walk);
     }
 }
 
 // A walk in `States`, with an empty line after it.
-fn states(rt: &impl Print, request: &Request) -> io::Result<()> {
-    match start(request) {
-        Ok(walk) => answers(rt, request, Form::States, walk)?,
-        Err(decline) => println!(rt; "error {}", u8::from(decline))?,
+fn states(rt: &impl Print, request: &Request<Form>) {
+    let placed = placed(request);
+    match placed.declined {
+        None => answers(rt, request, placed.walk),
+        Some(decline) => line(rt, b"", format_args!("error {decline}")),
     }
-    println!(rt)
+    line(rt, b"", "");
 }
 
 // What the check says of an image, in `Check` with its counts; whether it accepts it.
-fn checked(rt: &impl Print, request: &Request, form: Form) -> io::Result<bool> {
-    let name = request.name.as_str();
-    match verify::check_image(&request.image) {
-        Ok(
-            Counts {
-                leaves,
-                value_slots,
-                sub_layers,
-            },
-        ) => {
-            if form == Form::Check {
-                println!(rt; "{name} accepted {leaves} {value_slots} {sub_layers}")?;
-            } else {
-                println!(rt; "{name} accepted")?;
-            }
-            Ok(true)
-        }
-        Err(decline) => {
-            println!(rt; "{name} declined {}", u8::from(decline))?;
-            Ok(false)
-        }
+fn checked(rt: &impl Print, request: &Request<Form>) -> bool {
+    let name = request.name;
+    let checked = verify::check_image(request.image);
+    match checked {
+        Ok(counts) if request.form == Form::Check => line(
+            rt,
+            name,
+            format_args!(
+                " accepted {} {} {}",
+                counts.leaves, counts.value_slots, counts.sub_layers
+            ),
+        ),
+        Ok(_) => line(rt, name, " accepted"),
+        Err(decline) => declined(rt, name, decline),
     }
+    checked.is_ok()
 }
 
-// The bound test: the side, and the comparisons.
-fn tested(rt: &impl Print, request: &Request) -> io::Result<()> {
-    let tested = range_bound::test(request.kind, &request.bound, &request.cursor);
+// The bound test: the side, and the comparisons. (Here and above the handle goes beside the request, as each print takes it.)
+fn tested(rt: &impl Print, request: &Request<Form>) {
+    let tested = range_bound::test(request.kind, request.bound, request.cursor);
     let side = match tested.side {
         Side::Inside => "inside",
         Side::AtEnd => "at end",
         Side::Past => "past",
     };
-    println!(rt; "{} {side} {}", request.name, tested.comparisons)
+    let comparisons = tested.comparisons;
+    line(rt, request.name, format_args!(" {side} {comparisons}"));
 }
 
 // The answers of a request in its form.
-fn answer(rt: &impl Print, request: &Request) -> io::Result<()> {
-    let form = Form::from(request.form);
-    match form {
+fn answer(rt: &impl Print, request: &Request<Form>) {
+    match request.form {
         Form::Bound => tested(rt, request),
         Form::States => states(rt, request),
         Form::Check | Form::Total => {
-            if checked(rt, request, form)? && form == Form::Total {
-                walked(rt, request, form)?;
+            if checked(rt, request) && request.form == Form::Total {
+                walked(rt, request);
             }
-            Ok(())
         }
-        _ => walked(rt, request, form),
+        _ => walked(rt, request),
     }
-}
-
-fn answer_all(rt: &(impl Input + Print + AllocGlobal)) -> io::Result<()> {
-    for request in Requests::new(rt.alloc(), rt.reader()) {
-        answer(rt, &request?)?;
-    }
-    Ok(())
 }
 
 /// Reads requests until the input ends and prints their answers.
-pub fn run(rt: &(impl Input + Print + AllocGlobal)) {
-    let _ = answer_all(rt);
+pub fn run(rt: &(impl Input + Print)) {
+    let mut input = rt.reader();
+    let mut space = [0u8; requests::SPACE];
+    for _ in 0..MOST {
+        let Some(request) = requests::read(&mut input, &mut space) else {
+            return;
+        };
+        answer(rt, &request);
+    }
 }

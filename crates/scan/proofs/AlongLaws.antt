@@ -1,23 +1,22 @@
 -- The moves along a leaf: each is a move of the machine that hands out a key, so that what is left to do stays what it was.
 use Rattle.std.specs.Prelude.{◌≡◌, ◌+◌, ◌-◌, ◌≤◌, ◌<◌, None, Ok, Err, Some}
-use Rattle.base.specs.Kit.{refl, sym, ◌∙◌, ap, Bool, true, false, List, ℕ, arith, length}
+use Rattle.base.specs.Kit.{refl, sym, ◌∙◌, ap, true, false, List, ℕ, arith, length}
 use Rattle.base.specs.Pick.{pick}
 use Rattle.base.proofs.Choice.{pick-on, pick_off}
-use Rattle.scan.specs.Types.{Slot, CursorPlace, ScanCtx, Out, NextKeyPast as PastBound, LayerContext, Slow, Bound, Unreadable, MovesSpent}
+use Rattle.scan.specs.Types.{Held, Slot, CursorPlace, ScanCtx, HandedKey, LayerContext, Unreadable, MovesSpent}
 use Rattle.cursor.specs.CursorKey.{with_ikey, with_length}
 use Rattle.search.specs.Traversal.{leaf_there}
 use Rattle.moves.specs.Moves.{onward, key_place, key_buf}
 use Rattle.moves.specs.CodeMoves.{InRange}
-use Rattle.moves.specs.CodeFastPath.{fast_slot, next_key}
+use Rattle.moves.specs.CodeFastPath.{outcome_of, fast_slot, next_of}
 use Rattle.moves.proofs.StoredKey.{key_fits, key-buf-length}
-use Rattle.moves.proofs.FastLaws.{Fast, fast_facts, next_place}
-use Rattle.scan.specs.Machine.{Scan}
+use Rattle.moves.proofs.FastLaws.{Fast, fast_facts}
 use Rattle.scan.specs.CodeLoop.{counted, came_to, goes_on, after_by, run_by, AfterKey, ahead, along_with, AlongFrom}
 use Rattle.scan.proofs.RunLaws.{turn}
-use Rattle.scan.proofs.FastMove.{leaf_gone, moves_out, moves-past}
+use Rattle.scan.proofs.FastMove.{leaf_gone, moves_so}
 
 module _ (image : List ℕ) (kind : ℕ) (bound buf₀ : List ℕ) (c₀ : ScanCtx) (keys₀ moves₀ : ℕ) where
-  abbrev scan : ScanCtx → List ℕ → List LayerContext → Scan
+  abbrev scan : ScanCtx → List ℕ → List LayerContext → Held
   scan c buf stack = record { ctx = c; buf = buf; stack = stack }
 
   -- What the moves along the leaf have come to.
@@ -35,7 +34,7 @@ module _ (image : List ℕ) (kind : ℕ) (bound buf₀ : List ℕ) (c₀ : ScanC
     room = omega (arith, g.in_range_lem.place, g.in_range_lem.deep)
 
     -- no move is left
-    pub spent : length image ≤ moves → AlongFrom image kind bound buf₀ c₀ keys₀ moves₀ (along_with (Err MovesSpent) c keys moves) buf
+    pub spent : length image ≤ moves → AlongFrom image kind bound buf₀ c₀ keys₀ moves₀ (along_with (Some (Err MovesSpent)) c keys moves) buf
     unfolding run_by
     spent l = record {
       same = λ stack. let z : length image - moves ≡ 0 = omega arith in rw z at (g.same stack);
@@ -50,7 +49,7 @@ module _ (image : List ℕ) (kind : ℕ) (bound buf₀ : List ℕ) (c₀ : ScanC
 
     module _ (more : moves < length image) where
       -- its leaf is not there
-      pub gone : leaf_there image c.leaf ≡ false → AlongFrom image kind bound buf₀ c₀ keys₀ moves₀ (along_with (Err Unreadable) c keys (moves + 1)) buf
+      pub gone : leaf_there image c.leaf ≡ false → AlongFrom image kind bound buf₀ c₀ keys₀ moves₀ (along_with (Some (Err Unreadable)) c keys (moves + 1)) buf
       unfolding after_by counted pick
       gone e = record {
         same = λ stack. sym (turn image kind bound true moves keys (scan c buf stack) _ _ more (leaf_gone image kind bound buf stack c g.after e)) ∙ g.same stack;
@@ -65,7 +64,7 @@ module _ (image : List ℕ) (kind : ℕ) (bound buf₀ : List ℕ) (c₀ : ScanC
 
       module _ (there : leaf_there image c.leaf ≡ true) where
         -- the next move is not the fast path's
-        pub slow : AlongFrom image kind bound buf₀ c₀ keys₀ moves₀ (along_with (Ok Slow) c keys moves) buf
+        pub slow : AlongFrom image kind bound buf₀ c₀ keys₀ moves₀ (along_with None c keys moves) buf
         unfolding pick
         slow = record {
           same = g.same;
@@ -79,7 +78,7 @@ module _ (image : List ℕ) (kind : ℕ) (bound buf₀ : List ℕ) (c₀ : ScanC
         }
 
         -- it is: k and b are cursor and buffer with the key
-        module _ (slot : Slot) (e : fast_slot image c.leaf c.position c.cursor ≡ Some slot) (k : CursorPlace)
+        module _ (slot : Slot) (e : fast_slot image c.leaf c.position c.cursor ≡ Some slot) (k : CursorPlace) (ek : k ≡ key_place image c.leaf slot c.cursor)
             (b : List ℕ) (eb : b ≡ key_buf image c.leaf slot c.cursor.offset buf) where
           facts : Fast image c.leaf c.position c.cursor slot
           facts = fast_facts image c.leaf c.position c.cursor slot e
@@ -87,9 +86,9 @@ module _ (image : List ℕ) (kind : ℕ) (bound buf₀ : List ℕ) (c₀ : ScanC
           long_still : length b ≡ 256
           long_still = rw eb (key-buf-length image c.leaf slot c.cursor room facts.storable buf g.long)
 
-          goes_on_lem : k ≡ key_place image c.leaf slot c.cursor → InRange c.depth (onward c k k.ikey)
+          goes_on_lem : InRange c.depth (onward c k k.ikey)
           unfolding onward key_place with_ikey with_length
-          goes_on_lem ek =
+          goes_on_lem =
               let p : k.offset ≡ c.cursor.offset = ap (λ (x : CursorPlace). x.offset) ek in
               record {
                 place = p ∙ g.in_range_lem.place;
@@ -103,14 +102,14 @@ module _ (image : List ℕ) (kind : ℕ) (bound buf₀ : List ℕ) (c₀ : ScanC
           after_it = record { next = refl; not-due = refl; last-is = refl }
 
           -- the bound ends them with this key, and n keys are out
-          ends : (n : ℕ) → n ≤ moves + 1 → k ≡ key_place image c.leaf slot c.cursor
+          ends : (n : ℕ) → n ≤ moves + 1
               → ((stack : List LayerContext) → came_to (Ok None) false n (moves + 1) (scan (onward c k k.ikey) b stack) ≡ ahead image kind bound keys₀ moves₀ (scan c₀ buf₀ stack))
-              → AlongFrom image kind bound buf₀ c₀ keys₀ moves₀ (along_with (Ok Bound) (onward c k k.ikey) n (moves + 1)) b
+              → AlongFrom image kind bound buf₀ c₀ keys₀ moves₀ (along_with (Some (Ok None)) (onward c k k.ikey) n (moves + 1)) b
           unfolding onward pick
-          ends n l ek s = record {
+          ends n l s = record {
             same = s;
             after = after_it;
-            in_range_lem = goes_on_lem ek;
+            in_range_lem = goes_on_lem;
             long = long_still;
             few = l;
             grows = omega (arith, g.grows);
@@ -119,34 +118,33 @@ module _ (image : List ℕ) (kind : ℕ) (bound buf₀ : List ℕ) (c₀ : ScanC
           }
 
           -- the key is out; where it is the last, the count is at its end
-          module _ (value : ℕ) (last : Bool) (f : Out k value last ≡ next_key image kind bound buf c.leaf slot c.cursor) where
+          module _ (h : HandedKey) (f : Some h ≡ next_of image kind bound b c.leaf slot k) where
             comes : (stack : List LayerContext)
-                → pick (goes_on true last) (ahead image kind bound (keys + 1) (moves + 1) (scan (onward c k k.ikey) b stack)) (came_to (Ok None) false (keys + 1) (moves + 1) (scan (onward c k k.ikey) b stack))
+                → pick (goes_on true h.last) (ahead image kind bound (keys + 1) (moves + 1) (scan (onward c k k.ikey) b stack)) (came_to (Ok None) false (keys + 1) (moves + 1) (scan (onward c k k.ikey) b stack))
                 ≡ ahead image kind bound keys₀ moves₀ (scan c₀ buf₀ stack)
-            unfolding onward after_by counted pick
-            comes stack = rw eb (sym (turn image kind bound true moves keys (scan c buf stack) _ _ more (moves_out image kind bound buf stack c g.after there slot e k value last f)) ∙ g.same stack)
+            unfolding onward outcome_of after_by counted pick
+            comes stack = sym (turn image kind bound true moves keys (scan c buf stack) _ _ more (moves_so image kind bound buf stack c g.after there slot e k b (Some h) ek eb f)) ∙ g.same stack
 
-            pub out : last ≡ false → Going b (onward c k k.ikey) (keys + 1) (moves + 1)
+            pub out : h.last ≡ false → Going b (onward c k k.ikey) (keys + 1) (moves + 1)
             unfolding onward
             out t = record {
-              same = λ stack. pick-on _ (goes_on true last) refl _ _ _ (ap (goes_on true) t) refl ∙ comes stack;
+              same = λ stack. pick-on _ (goes_on true h.last) refl _ _ _ (ap (goes_on true) t) refl ∙ comes stack;
               after = after_it;
-              in_range_lem = goes_on_lem (next_place image kind bound buf c.leaf slot c.cursor _ f);
+              in_range_lem = goes_on_lem;
               long = long_still;
               few = omega (arith, g.few);
               grows = omega (arith, g.grows);
               within = omega arith;
             }
 
-            pub last_out : last ≡ true → AlongFrom image kind bound buf₀ c₀ keys₀ moves₀ (along_with (Ok Bound) (onward c k k.ikey) (keys + 1) (moves + 1)) b
+            pub last_out : h.last ≡ true → AlongFrom image kind bound buf₀ c₀ keys₀ moves₀ (along_with (Some (Ok None)) (onward c k k.ikey) (keys + 1) (moves + 1)) b
             last_out t =
-                ends (keys + 1) (omega (arith, g.few)) (next_place image kind bound buf c.leaf slot c.cursor _ f)
-                (λ stack. pick_off _ (goes_on true last) refl _ _ _ (ap (goes_on true) t) refl ∙ comes stack)
+                ends (keys + 1) (omega (arith, g.few)) (λ stack. pick_off _ (goes_on true h.last) refl _ _ _ (ap (goes_on true) t) refl ∙ comes stack)
 
           -- it is past the bound
-          pub past : PastBound k ≡ next_key image kind bound buf c.leaf slot c.cursor
-              → AlongFrom image kind bound buf₀ c₀ keys₀ moves₀ (along_with (Ok Bound) (onward c k k.ikey) keys (moves + 1)) b
-          unfolding onward after_by counted
+          pub past : None ≡ next_of image kind bound b c.leaf slot k
+              → AlongFrom image kind bound buf₀ c₀ keys₀ moves₀ (along_with (Some (Ok None)) (onward c k k.ikey) keys (moves + 1)) b
+          unfolding onward outcome_of after_by counted
           past f =
-              ends keys (omega (arith, g.few)) (next_place image kind bound buf c.leaf slot c.cursor _ f)
-              (λ stack. rw eb (sym (turn image kind bound true moves keys (scan c buf stack) _ _ more (moves-past image kind bound buf stack c g.after there slot e k f)) ∙ g.same stack))
+              ends keys (omega (arith, g.few))
+              (λ stack. sym (turn image kind bound true moves keys (scan c buf stack) _ _ more (moves_so image kind bound buf stack c g.after there slot e k b None ek eb f)) ∙ g.same stack)

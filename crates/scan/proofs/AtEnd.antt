@@ -6,8 +6,8 @@ use Rattle.base.specs.Kit.{ap, sym, ◌∙◌, Bool, true, not, List, ℕ, arith
 use Rattle.base.proofs.Choice.{pick_ind}
 use Rattle.walk.specs.Walk.{walk_ok, keys_of, len_of}
 use Rattle.walk.proofs.NumberLaws.{walk-fits, fits-walk}
-use Rattle.scan.specs.Types.{Walk, Answer, Stepped}
-use Rattle.scan.specs.Machine.{Scan, run, is_ended, scan_of, after_key, answered, stepped, finished, advance, step}
+use Rattle.scan.specs.Types.{Held, Walk, Answer, Stepped}
+use Rattle.scan.specs.Machine.{run, is_ended, scan_of, after_key, answered, stepped, finished, advance, step}
 use Rattle.scan.specs.Ends.{ends_with}
 use Rattle.scan.proofs.BeginLaws.{starts_between, step_ended}
 use Rattle.scan.proofs.Kept.{OutBy, run-kept}
@@ -21,7 +21,7 @@ module _ (w : Walk) (image : List ℕ) (buf-is : length w.cursor.buf ≡ 256) (s
   bytes = take w.bound.len w.bound.key
 
   module _ (ok : walk_ok w (length image) ≡ true) where
-    after_run : (answer : Answer) (last : Bool) (moves : ℕ) (s : Scan) → OutBy image w.bound.kind bytes answer last s → After (stepped w answer last moves s)
+    after_run : (answer : Answer) (last : Bool) (moves : ℕ) (s : Held) → OutBy image w.bound.kind bytes answer last s → After (stepped w answer last moves s)
     unfolding keys_of len_of
     after_run (Ok (Some k)) last moves s h e =
         let o = walk-fits w (length image) ok in

@@ -5,14 +5,14 @@ use Rattle.base.specs.Kit.{refl, sym, Bool, not, List, ℕ, arith, length, take}
 use Rattle.base.proofs.Choice.{pick_ind, by_test}
 use Rattle.walk.specs.Walk.{walk_ok, keys_of}
 use Rattle.walk.proofs.NumberLaws.{walk-fits}
-use Rattle.scan.specs.Types.{Walk, Answer, WalkRange}
-use Rattle.scan.specs.Machine.{Scan, run, is_ended, scan_of, declined_with, stepped, finished, advance, step}
+use Rattle.scan.specs.Types.{Held, Walk, Answer, WalkRange}
+use Rattle.scan.specs.Machine.{run, is_ended, scan_of, declined_with, stepped, finished, advance, step}
 use Rattle.scan.specs.Carries.{carried, Carries}
 use Rattle.scan.proofs.BeginLaws.{step_declined}
 
 module _ (w : Walk) where
   -- a step by its answer
-  by_answer : (answer : Answer) (last : Bool) (moves : ℕ) (s : Scan) → Carries w (stepped w answer last moves s)
+  by_answer : (answer : Answer) (last : Bool) (moves : ℕ) (s : Held) → Carries w (stepped w answer last moves s)
   unfolding carried keys_of
   by_answer (Ok (Some k)) last moves s = record { answer = refl; count = refl; depth = λ e. refl; stands = λ e. absurd (omega arith) }
   by_answer (Ok None) last moves s = record { answer = refl; count = omega arith; depth = λ e. absurd (omega arith); stands = λ e. refl }

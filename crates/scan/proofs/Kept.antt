@@ -6,23 +6,23 @@ use Rattle.cursor.specs.RangeBound.{at_end}
 use Rattle.moves.specs.CodeMoves.{InRange}
 use Rattle.moves.proofs.Laws.{Between, Before, After, not_up, popped_in_range, Good, entered_in_range, move_in_range}
 use Rattle.moves.proofs.Told.{Told, Passes, move_told}
-use Rattle.scan.specs.Types.{ScanState, Up, ScanCtx, Outcome, Continue, Push, Emit, Exhausted, Pass, Decline, LayerContext, Answer}
-use Rattle.scan.specs.Machine.{Scan, Moved, is_up, pushing, passed_by, popped, unstacked, move, Ran, after, run}
+use Rattle.scan.specs.Types.{Held, ScanState, Up, ScanCtx, Outcome, Continue, Push, Emit, Exhausted, Pass, Decline, LayerContext, Answer}
+use Rattle.scan.specs.Machine.{Moved, is_up, pushing, passed_by, popped, unstacked, move, Ran, after, run}
 use Rattle.scan.proofs.MoveLaws.{up_state, other_state, pass-is, up_is, end_is}
 
 -- The lengths of what the loop holds.
-abbrev pub Long : Scan → Type 0
+abbrev pub Long : Held → Type 0
 Long s = (length s.buf ≡ 256) × (length s.stack ≡ 31)
 
 module _ (image : List ℕ) (kind : ℕ) (bound : List ℕ) where
   -- A key that is out: cursor and buffer hold it.
-  pub record IsOut (len : ℕ) (last : Bool) (s : Scan) : Type 0 where
+  pub record IsOut (len : ℕ) (last : Bool) (s : Held) : Type 0 where
     pub in_range_lem : InRange s.ctx.depth s.ctx
     pub len_is : len ≡ s.ctx.cursor.offset + s.ctx.cursor.len
     pub last-is : last ≡ at_end kind bound (take len s.buf)
 
   -- Where the loop goes on, its numbers are in range.
-  abbrev Going : Result Outcome Decline → Scan → Type 0
+  abbrev Going : Result Outcome Decline → Held → Type 0
   Going (Ok Continue) s = Between s.ctx.state s.ctx
   Going (Ok (Push root)) s = Between s.ctx.state s.ctx
   Going (Ok (Emit value last)) s = IsOut (s.ctx.cursor.offset + s.ctx.cursor.len) last s
@@ -41,12 +41,12 @@ module _ (image : List ℕ) (kind : ℕ) (bound : List ℕ) where
   pushed (Emit value last) c buf stack h o l t = (record { in_range_lem = h.1; len_is = refl; last-is = o }, (l, t))
   pushed Exhausted c buf stack h o l t = (tt, (l, t))
 
-  passed : (s : Scan) (buf : List ℕ) (r : Result Pass Decline) → Good r → Passes kind bound buf r → length buf ≡ 256 → Long s → Kept (passed_by s buf r)
+  passed : (s : Held) (buf : List ℕ) (r : Result Pass Decline) → Good r → Passes kind bound buf r → length buf ≡ 256 → Long s → Kept (passed_by s buf r)
   unfolding passed_by
   passed s buf (Ok p) h o l t = pushed p.outcome p.ctx buf s.stack h o l t.1
   passed s buf (Err d) h o l t = (tt, t)
 
-  module _ (s : Scan) (h : Between s.ctx.state s.ctx) (l : Long s) where
+  module _ (s : Held) (h : Between s.ctx.state s.ctx) (l : Long s) where
     up_range : InRange s.ctx.depth s.ctx → 0 < s.ctx.depth → Before Up (popped s.ctx s.stack)
     up_range r d = popped_in_range s.ctx _ refl refl r d refl
 
@@ -71,7 +71,7 @@ module _ (image : List ℕ) (kind : ℕ) (bound : List ℕ) where
         rw (pass-is image kind bound s u) (passed _ _ _ r.0 (move_told kind bound s.ctx.state image s.buf s.ctx) r.1 l)
 
   -- THE RUN
-  abbrev pub OutBy : Answer → Bool → Scan → Type 0
+  abbrev pub OutBy : Answer → Bool → Held → Type 0
   OutBy (Ok (Some k)) last s = IsOut k.len last s
   OutBy (Ok None) last s = Unit {0}
   OutBy (Err d) last s = Unit {0}
@@ -79,7 +79,7 @@ module _ (image : List ℕ) (kind : ℕ) (bound : List ℕ) where
   abbrev pub KeptBy : Ran → Type 0
   KeptBy r = OutBy r.answer r.last r.scan × Long r.scan
 
-  after_kept : (o : Result Outcome Decline) (moves : ℕ) (s : Scan) (rest : Ran) → Going o s → Long s
+  after_kept : (o : Result Outcome Decline) (moves : ℕ) (s : Held) (rest : Ran) → Going o s → Long s
       → (Between s.ctx.state s.ctx → KeptBy rest) → KeptBy (after o moves s rest)
   unfolding after
   after_kept (Ok Continue) moves s rest h l f = f h
@@ -88,7 +88,7 @@ module _ (image : List ℕ) (kind : ℕ) (bound : List ℕ) where
   after_kept (Ok Exhausted) moves s rest h l f = (tt, l)
   after_kept (Err d) moves s rest h l f = (tt, l)
 
-  pub run-kept : (n moves : ℕ) (s : Scan) → Between s.ctx.state s.ctx → Long s → KeptBy (run image kind bound n moves s)
+  pub run-kept : (n moves : ℕ) (s : Held) → Between s.ctx.state s.ctx → Long s → KeptBy (run image kind bound n moves s)
   unfolding run
   run-kept zero moves s h l = (tt, l)
   run-kept (suc n) moves s h l =

@@ -3,8 +3,8 @@ use Rattle.std.specs.Prelude.{◌≡◌, Ok}
 use Rattle.base.specs.Kit.{refl, sym, ◌∙◌, ap, true, false, true≢false, false≢true, List, ℕ, eq-eqb, ne_eqb}
 use Rattle.base.specs.Pick.{pick}
 use Rattle.moves.specs.Moves.{pass_in}
-use Rattle.scan.specs.Types.{ScanState, ScanStateStart as Start, ScanStateRetry as Retry, ScanStateFindNext as FindNext, Down, Up, Exhausted}
-use Rattle.scan.specs.Machine.{Scan, is_up, popped, unstacked, before, moved_by, move_in, move}
+use Rattle.scan.specs.Types.{Held, ScanState, ScanStateStart as Start, ScanStateRetry as Retry, ScanStateFindNext as FindNext, Down, Up, Exhausted}
+use Rattle.scan.specs.Machine.{is_up, popped, unstacked, before, moved_by, move_in, move}
 
 pub up_state : (state : ScanState) → is_up state ≡ true → state ≡ Up
 up_state (Start mode) e = absurd (false≢true e)
@@ -23,7 +23,7 @@ not_up_state Up h = absurd (h refl)
 pub other_state : (state : ScanState) → is_up state ≡ false → state ≡ Up → ⊥
 other_state state e u = true≢false (sym (ap is_up u) ∙ e)
 
-module _ (image : List ℕ) (kind : ℕ) (bound : List ℕ) (s : Scan) where
+module _ (image : List ℕ) (kind : ℕ) (bound : List ℕ) (s : Held) where
   -- in every state but Up
   pub pass-is : is_up s.ctx.state ≡ false → move image kind bound s ≡ moved_by s (pass_in s.ctx.state image kind bound s.buf s.ctx)
   unfolding move move_in before pick

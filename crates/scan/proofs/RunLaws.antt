@@ -3,16 +3,16 @@ use Rattle.std.specs.Prelude.{◌≡◌, ◌&&◌, ◌+◌, ◌-◌, ◌<◌, Re
 use Rattle.base.specs.Kit.{refl, ap, Bool, true, false, List, ℕ, zero, suc, length}
 use Rattle.base.specs.Pick.{pick}
 use Rattle.base.proofs.Count.{left-more}
-use Rattle.scan.specs.Types.{Outcome, Continue, Push, Emit, Exhausted, Decline, Walk}
+use Rattle.scan.specs.Types.{Held, Outcome, Continue, Push, Emit, Exhausted, Decline, Walk}
 use Rattle.walk.specs.Walk.{walk_ok}
-use Rattle.scan.specs.Machine.{Scan, move, after, run, is_ended, finished, advance}
+use Rattle.scan.specs.Machine.{move, after, run, is_ended, finished, advance}
 use Rattle.scan.specs.CodeLoop.{counted, after_by, run_by, all_by, advance_by, keys_ahead, keys_left}
 
 module _ (image : List ℕ) (kind : ℕ) (bound : List ℕ) where
   abbrev ToKey : ℕ → Type 0
-  ToKey n = (keys moves : ℕ) (s : Scan) → (run_by false image kind bound n keys moves s).ran ≡ run image kind bound n moves s
+  ToKey n = (keys moves : ℕ) (s : Held) → (run_by false image kind bound n keys moves s).ran ≡ run image kind bound n moves s
 
-  key-after : (n : ℕ) → ToKey n → (keys moves : ℕ) (next : Scan) (o : Result Outcome Decline)
+  key-after : (n : ℕ) → ToKey n → (keys moves : ℕ) (next : Held) (o : Result Outcome Decline)
       → (after_by false o (counted o keys) moves next (run_by false image kind bound n (counted o keys) moves next)).ran
       ≡ after o moves next (run image kind bound n moves next)
   unfolding after_by counted after pick
@@ -28,7 +28,7 @@ module _ (image : List ℕ) (kind : ℕ) (bound : List ℕ) where
   to-key (suc n) keys moves s = key-after n (to-key n) keys (moves + 1) (move image kind bound s).scan (move image kind bound s).outcome
 
   -- ONE MOVE of a run that has moves left, which comes to o with the scan t
-  pub turn : (whole : Bool) (moves keys : ℕ) (s : Scan) (o : Result Outcome Decline) (t : Scan) → moves < length image
+  pub turn : (whole : Bool) (moves keys : ℕ) (s : Held) (o : Result Outcome Decline) (t : Held) → moves < length image
       → move image kind bound s ≡ record { outcome = o; scan = t }
       → run_by whole image kind bound (length image - moves) keys moves s
       ≡ after_by whole o (counted o keys) (moves + 1) t (run_by whole image kind bound (length image - (moves + 1)) (counted o keys) (moves + 1) t)

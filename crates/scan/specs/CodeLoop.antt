@@ -1,13 +1,13 @@
 -- The loop as its functions have it: the run that counts as it goes, and the moves along a leaf. specs/Machine.antt says what a step
 -- comes to; proofs/RunLaws.antt has that this run is the machine's.
-use Rattle.std.specs.Prelude.{◌&&◌, ◌≡◌, ◌+◌, ◌-◌, ◌≤◌, ◌<◌, None, Result, Ok, Err}
+use Rattle.std.specs.Prelude.{◌&&◌, ◌≡◌, ◌+◌, ◌-◌, ◌≤◌, ◌<◌, Option, Some, None, Result, Ok, Err}
 use Rattle.base.specs.Kit.{Bool, true, false, not, List, ℕ, zero, suc, eqb, length, take}
 use Rattle.base.specs.Pick.{pick}
 use Rattle.search.specs.Traversal.{leaf_there}
 use Rattle.moves.specs.CodeMoves.{InRange}
-use Rattle.scan.specs.Types.{ScanState, ScanStateStart as Start, ScanStateRetry as Retry, ScanStateFindNext as FindNext, Down, Up, ScanCtx, Outcome, Continue, Push, Emit, Exhausted, LayerContext, WalkStateFindNext as Next, Walk, Answer, Decline, Unreadable, MovesSpent, LeafEnd, Slow, Bound, Along, Advanced}
+use Rattle.scan.specs.Types.{Held, ScanState, ScanStateStart as Start, ScanStateRetry as Retry, ScanStateFindNext as FindNext, Down, Up, ScanCtx, Outcome, Continue, Push, Emit, Exhausted, LayerContext, WalkStateFindNext as Next, Walk, Answer, Decline, Unreadable, MovesSpent, Along, Ending, Advanced}
 use Rattle.walk.specs.Walk.{walk_ok}
-use Rattle.scan.specs.Machine.{Scan, move, Ran, is_ended, scan_of, key_out, finished}
+use Rattle.scan.specs.Machine.{move, Ran, is_ended, scan_of, key_out, finished}
 
 -- What the loop asks of its walk: its numbers are in range; and where `tested` tells that the first move has tested its leaf's version, that
 -- move is a FindNext, and the leaf is there.
@@ -29,18 +29,25 @@ pub record Run : Type 0 where
   pub ran : Ran
 
 -- where it ends, with an answer
-abbrev pub came_to : Answer → Bool → ℕ → ℕ → Scan → Run
+abbrev pub came_to : Answer → Bool → ℕ → ℕ → Held → Run
 came_to answer last keys moves s = record { keys = keys; ran = record { answer = answer; last = last; moves = moves; scan = s } }
+
+abbrev pub ending_with : Answer → Bool → ScanCtx → ℕ → ℕ → Ending
+ending_with answer last c keys moves = record { answer = answer; last = last; ctx = c; keys = keys; moves = moves }
+
+-- The same with what the loop holds there: e's context, and h's buffer and stack.
+abbrev pub run_with : Ending → Held → Run
+run_with e h = came_to e.answer e.last e.keys e.moves (record { ctx = e.ctx; buf = h.buf; stack = h.stack })
 
 -- A count goes on past a key, and is at its end with the last; a step hands it out.
 abbrev pub goes_on : Bool → Bool → Bool
 goes_on whole last = whole && not last
 
-abbrev pub emitted_by : Bool → ℕ → Bool → ℕ → ℕ → Scan → Run
+abbrev pub emitted_by : Bool → ℕ → Bool → ℕ → ℕ → Held → Run
 emitted_by whole value last keys moves s =
     pick whole (came_to (Ok None) false keys moves s) (came_to (key_out (s.ctx.cursor.offset + s.ctx.cursor.len) value) last keys moves s)
 
-unfoldable pub after_by : Bool → Result Outcome Decline → ℕ → ℕ → Scan → Run → Run
+unfoldable pub after_by : Bool → Result Outcome Decline → ℕ → ℕ → Held → Run → Run
 after_by whole (Ok Continue) keys moves s rest = rest
 after_by whole (Ok (Push root)) keys moves s rest = rest
 after_by whole (Ok (Emit value last)) keys moves s rest =
@@ -48,7 +55,7 @@ after_by whole (Ok (Emit value last)) keys moves s rest =
 after_by whole (Ok Exhausted) keys moves s rest = came_to (Ok None) false keys moves s
 after_by whole (Err d) keys moves s rest = came_to (Err d) false keys moves s
 
-unfoldable pub run_by : Bool → List ℕ → ℕ → List ℕ → ℕ → ℕ → ℕ → Scan → Run
+unfoldable pub run_by : Bool → List ℕ → ℕ → List ℕ → ℕ → ℕ → ℕ → Held → Run
 run_by whole image kind bound zero keys moves s = came_to (Err MovesSpent) false keys moves s
 run_by whole image kind bound (suc n) keys moves s =
     let m = move image kind bound s in
@@ -89,23 +96,22 @@ pub record AfterKey (c : ScanCtx) : Type 0 where
   pub not-due : c.dup ≡ false
   pub last-is : c.last ≡ c.cursor.ikey
 
--- Where the moves along a leaf end: the loop goes on with what it comes to, or ends with an answer.
-abbrev pub along_to : Result LeafEnd Decline → Run → (Answer → Run) → Run
-along_to (Ok Slow) on ends = on
-along_to (Ok Bound) on ends = ends (Ok None)
-along_to (Err d) on ends = ends (Err d)
+-- Where the moves along a leaf end: the loop ends with an answer, or goes on with what it comes to.
+abbrev pub along_to : Option Answer → Run → (Answer → Run) → Run
+along_to (Some answer) on ends = ends answer
+along_to None on ends = on
 
 -- what is left to do, from a scan on
-abbrev pub ahead : List ℕ → ℕ → List ℕ → ℕ → ℕ → Scan → Run
+abbrev pub ahead : List ℕ → ℕ → List ℕ → ℕ → ℕ → Held → Run
 ahead image kind bound keys moves s = run_by true image kind bound (length image - moves) keys moves s
 
-abbrev pub along_with : Result LeafEnd Decline → ScanCtx → ℕ → ℕ → Along
+abbrev pub along_with : Option Answer → ScanCtx → ℕ → ℕ → Along
 along_with end c keys moves = record { end = end; ctx = c; keys = keys; moves = moves }
 
 -- What the moves along a leaf come to, r with the buffer b, is part of what all moves come to.
 pub record AlongFrom (image : List ℕ) (kind : ℕ) (bound buf : List ℕ) (c : ScanCtx) (keys moves : ℕ) (r : Along) (b : List ℕ) : Type 0 where
   pub same : (stack : List LayerContext) →
-      (let s : Scan = record { ctx = r.ctx; buf = b; stack = stack } in
+      (let s : Held = record { ctx = r.ctx; buf = b; stack = stack } in
       along_to r.end (ahead image kind bound r.keys r.moves s) (λ answer. came_to answer false r.keys r.moves s))
       ≡ ahead image kind bound keys moves (record { ctx = c; buf = buf; stack = stack })
   pub after : AfterKey r.ctx
@@ -114,7 +120,7 @@ pub record AlongFrom (image : List ℕ) (kind : ℕ) (bound buf : List ℕ) (c :
   pub few : r.keys ≤ r.moves
   pub grows : moves ≤ r.moves
   pub within : r.moves ≤ length image
-  pub tested : r.end ≡ Ok Slow → (r.moves < length image) × (leaf_there image r.ctx.leaf ≡ true)
+  pub tested : r.end ≡ None → (r.moves < length image) × (leaf_there image r.ctx.leaf ≡ true)
 
 -- Why a step is declined where its first move's leaf is not there: 22, and 23 where no move may be made.
 abbrev pub no_leaf : ℕ → Decline

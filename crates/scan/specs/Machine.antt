@@ -3,21 +3,16 @@
 use Rattle.std.specs.Prelude.{◌&&◌, ◌+◌, ◌-◌, Some, None, Result, Ok, Err}
 use Rattle.base.specs.Kit.{Bool, true, false, not, List, ℕ, zero, suc, eqb, length, take, get_or, set}
 use Rattle.base.specs.Pick.{pick}
-use Rattle.scan.specs.Types.{StartMode, LayerContext, WalkState, WalkStateStart as Start, WalkStateRetry as Retry, WalkStateFindNext as FindNext, Ended, HandedOut, Walk, ScanState, ScanCtx, Outcome, Continue, Push, Emit, Exhausted, Pass, Answer, Decline, WalkRange, MovesSpent, Stepped}
+use Rattle.scan.specs.Types.{Held, StartMode, LayerContext, WalkState, WalkStateStart as Start, WalkStateRetry as Retry, WalkStateFindNext as FindNext, Ended, HandedOut, Walk, ScanState, ScanCtx, Outcome, Continue, Push, Emit, Exhausted, Pass, Answer, Decline, WalkRange, MovesSpent, Stepped}
 use Rattle.walk.specs.Walk.{nothing_yet, one_more, empty_context, walk_ok}
 use Rattle.moves.specs.Moves.{Taken, in_layer, pass_in}
 use Rattle.moves.specs.declared.context.ScanState.TheVariants as loop
 
--- THE LOOP. What it holds of a walk.
-pub record Scan : Type 0 where
-  pub ctx : ScanCtx
-  pub buf : List ℕ
-  pub stack : List LayerContext
-
+-- THE LOOP.
 -- What a move comes to; one that meets 22 is declined.
 pub record Moved : Type 0 where
   pub outcome : Result Outcome Decline
-  pub scan : Scan
+  pub scan : Held
 
 -- "A layer: root and leaf stacked": the layer's root is the walk's from now on.
 abbrev pub entered : ℕ → ScanCtx → ScanCtx
@@ -29,7 +24,7 @@ layer_of c = record { root = c.root; leaf = c.leaf }
 abbrev pub stacked : ScanCtx → List LayerContext → List LayerContext
 stacked c stack = set stack c.depth (layer_of c)
 
-unfoldable pub pushing : Outcome → Scan → Moved
+unfoldable pub pushing : Outcome → Held → Moved
 pushing (Push root) s = record { outcome = Ok Continue; scan = record { ctx = entered root s.ctx; buf = s.buf; stack = stacked s.ctx s.stack } }
 pushing Continue s = record { outcome = Ok Continue; scan = s }
 pushing (Emit value last) s = record { outcome = Ok (Emit value last); scan = s }
@@ -45,11 +40,11 @@ abbrev pub unstacked : ScanCtx → List LayerContext → List LayerContext
 unstacked c stack = set stack (c.depth - 1) empty_context
 
 -- A pass from s, which may enter a layer; one that is declined leaves s as it was.
-unfoldable pub passed_by : Scan → List ℕ → Result Pass Decline → Moved
+unfoldable pub passed_by : Held → List ℕ → Result Pass Decline → Moved
 passed_by s buf (Ok p) = pushing p.outcome (record { ctx = p.ctx; buf = buf; stack = s.stack })
 passed_by s buf (Err d) = record { outcome = Err d; scan = s }
 
-abbrev pub moved_by : Scan → Taken → Moved
+abbrev pub moved_by : Held → Taken → Moved
 moved_by s t = passed_by s t.buf t.pass
 
 abbrev pub is_up : ScanState → Bool
@@ -60,16 +55,16 @@ is_up loop.Down = false
 is_up loop.Up = true
 
 -- "Up: ends on an empty stack; else pop": what a pass is made from.
-unfoldable pub before : ScanState → Scan → Scan
+unfoldable pub before : ScanState → Held → Held
 before z s = pick (is_up z) (record { ctx = popped s.ctx s.stack; buf = s.buf; stack = unstacked s.ctx s.stack }) s
 
 -- One pass of the loop: in Up the layer above is taken back, or the walk ends; then the pass; then a layer that it found is entered.
-unfoldable pub move_in : ScanState → List ℕ → ℕ → List ℕ → Scan → Moved
+unfoldable pub move_in : ScanState → List ℕ → ℕ → List ℕ → Held → Moved
 move_in z image kind bound s =
     pick (is_up z && eqb s.ctx.depth 0) (record { outcome = Ok Exhausted; scan = s })
     (let t = before z s in moved_by t (pass_in z image kind bound t.buf t.ctx))
 
-unfoldable pub move : List ℕ → ℕ → List ℕ → Scan → Moved
+unfoldable pub move : List ℕ → ℕ → List ℕ → Held → Moved
 move image kind bound s = move_in s.ctx.state image kind bound s
 
 -- The answer of a key that is out.
@@ -81,9 +76,9 @@ pub record Ran : Type 0 where
   pub answer : Answer
   pub last : Bool
   pub moves : ℕ
-  pub scan : Scan
+  pub scan : Held
 
-unfoldable pub after : Result Outcome Decline → ℕ → Scan → Ran → Ran
+unfoldable pub after : Result Outcome Decline → ℕ → Held → Ran → Ran
 after (Ok Continue) moves s rest = rest
 after (Ok (Push root)) moves s rest = rest
 after (Ok (Emit value last)) moves s rest = record { answer = key_out (s.ctx.cursor.offset + s.ctx.cursor.len) value; last = last; moves = moves; scan = s }
@@ -91,7 +86,7 @@ after (Ok Exhausted) moves s rest = record { answer = Ok None; last = false; mov
 after (Err d) moves s rest = record { answer = Err d; last = false; moves = moves; scan = s }
 
 -- Moves until a key is out, the end or 22, n at most: "23: a call that would make more moves than the image has bytes".
-unfoldable pub run : List ℕ → ℕ → List ℕ → ℕ → ℕ → Scan → Ran
+unfoldable pub run : List ℕ → ℕ → List ℕ → ℕ → ℕ → Held → Ran
 run image kind bound zero moves s = record { answer = Err MovesSpent; last = false; moves = moves; scan = s }
 run image kind bound (suc n) moves s =
     let m = move image kind bound s in
@@ -130,11 +125,11 @@ ctx_of w = record {
   dup = false;
 }
 
-unfoldable pub scan_of : Walk → Scan
+unfoldable pub scan_of : Walk → Held
 scan_of w = record { ctx = ctx_of w; buf = w.cursor.buf; stack = w.stack }
 
 -- The walk after a call: what the loop holds, with image length, bound and start mode as they were.
-abbrev pub walk_of : Walk → WalkState → HandedOut → Scan → Walk
+abbrev pub walk_of : Walk → WalkState → HandedOut → Held → Walk
 walk_of w state handed s = record {
   image_len = w.image_len;
   root = s.ctx.root;
@@ -164,7 +159,7 @@ answered answer moves w = record { answer = answer; moves = moves; handed = w.ha
 
 -- 02 [13]: "The step's answer and the walk itself carry the depth at which the last key was found and how many have been handed out so far",
 -- "and a none gives both as they stand".
-abbrev pub stepped : Walk → Answer → Bool → ℕ → Scan → Stepped
+abbrev pub stepped : Walk → Answer → Bool → ℕ → Held → Stepped
 stepped w (Ok (Some k)) last moves s = answered (Ok (Some k)) moves (walk_of w (after_key last) (one_more w.handed s.ctx.depth) s)
 stepped w (Ok None) last moves s = answered (Ok None) moves (walk_of w Ended w.handed s)
 stepped w (Err d) last moves s = declined_with d w

@@ -12,14 +12,13 @@ pub use Rattle.moves.specs.declared.context.Pass.{Pass}
 pub use Rattle.moves.specs.declared.context.ScanCtx.{ScanCtx}
 pub use Rattle.moves.specs.declared.context.ScanState.{ScanState}
 pub use Rattle.moves.specs.declared.context.ScanState.TheVariants.{FindNext as ScanStateFindNext, Start as ScanStateStart, Retry as ScanStateRetry, Down, Up}
-pub use Rattle.moves.specs.declared.fast_path.NextKey.{NextKey}
-pub use Rattle.moves.specs.declared.fast_path.NextKey.TheVariants.{Out, Past as NextKeyPast}
+pub use Rattle.moves.specs.declared.fast_path.HandedKey.{HandedKey}
 pub use Rattle.node.specs.declared.permuter.Position.{Position}
 pub use Rattle.node.specs.declared.permuter.Slot.{Slot}
 pub use Rattle.scan.specs.declared.along_leaf.Along.{Along}
-pub use Rattle.scan.specs.declared.along_leaf.LeafEnd.{LeafEnd}
-pub use Rattle.scan.specs.declared.along_leaf.LeafEnd.TheVariants.{Slow, Bound}
 pub use Rattle.scan.specs.declared.forward_ctx.Advanced.{Advanced}
+pub use Rattle.scan.specs.declared.forward_ctx.Ending.{Ending}
+pub use Rattle.scan.specs.declared.scan_ctx.Held.{Held}
 pub use Rattle.walk.specs.declared.scan_state.HandedOut.{HandedOut}
 pub use Rattle.walk.specs.declared.scan_state.KeyOut.{KeyOut}
 pub use Rattle.walk.specs.declared.scan_state.LayerContext.{LayerContext}

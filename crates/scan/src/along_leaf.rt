@@ -7,23 +7,17 @@ ghost use Rattle.scan.specs.CodeLoop.{is_along, along_with, AfterKey, AlongFrom}
 use base::Decline;
 use cursor::range_bound::End;
 use moves::context::{ScanCtx, ScanState};
-use moves::fast_path::NextKey;
 use moves::{context, fast_path, stored_key};
-use node::leaf::LeafReader;
+use node::leaf::{LeafReader, SlotReader};
 use search::traversal;
+use walk::scan_state::Answer;
 
-// How the moves along a leaf end where none is declined: with one that the fast path does not make, and it has tested the leaf; or with the
-// bound, whose included end is out or which a key is past.
-#[derive(Clone, Copy, Debug, PartialEq, Eq)]
-pub enum LeafEnd {
-    Slow,
-    Bound,
-}
-
-// The moves along a leaf, and the keys that they hand out.
+// The moves along a leaf, and the keys that they hand out. They end with the loop's answer at the bound, whose included end is out or which a
+// key is past, and where one is declined; and with none before a move that the fast path does not make, whose leaf is tested.
+// (No `Ending`: that has an answer in every case, and whether its key is the last.)
 #[derive(Clone, Copy)]
 pub struct Along {
-    pub end: Result<LeafEnd, Decline>,
+    pub end: Option<Answer>,
     pub ctx: ScanCtx,
     pub keys: usize,
     pub moves: usize,
@@ -37,7 +31,7 @@ pub fn is_along(c: ScanCtx, whole: bool) -> bool
     whole && matches!(c.state, ScanState::FindNext) && !c.dup && c.last == c.cursor.ikey
 }
 
-fn ended_by(end: Result<LeafEnd, Decline>, ctx: ScanCtx, keys: usize, moves: usize) -> Along
+fn ended_by(end: Option<Answer>, ctx: ScanCtx, keys: usize, moves: usize) -> Along
     ensures { result ≡ along_with end ctx keys moves }
 {
     Along {
@@ -60,7 +54,6 @@ pub fn along_leaf(
 ) -> Along
     requires after_key { AfterKey start }
     requires in_range { InRange start.depth start }
-    requires buf_len { length buf.old ≡ 256 }
     requires found_le_done { found ≤ done }
     requires done_in_bounds { done ≤ length image.now }
     ensures { AlongFrom image.now end.entry.kind end.entry.key.now buf.old start found done result buf.new }
@@ -69,39 +62,27 @@ pub fn along_leaf(
     for moves in done..image.len() {
         let keys = found + (moves - done);
         if !traversal::is_leaf_there(image, c.leaf) {
-            return ended_by(Err(Decline::Unreadable), c, keys, moves + 1);
+            return ended_by(Some(Err(Decline::Unreadable)), c, keys, moves + 1);
         }
         let leaf = LeafReader {
             image,
             at: c.leaf as usize,
         };
-        match fast_path::fast_slot(leaf, c.position, c.cursor) {
-            None => {
-                return ended_by(Ok(LeafEnd::Slow), c, keys, moves);
-            }
-            Some(slot) => {
-                let stored = stored_key::store_key(leaf, slot, buf, c.cursor);
-                match fast_path::hand_out(leaf, end, buf, slot, stored) {
-                    NextKey::Out { k, value: _, last } => {
-                        c = context::go_on(c, k, k.ikey);
-                        if last {
-                            return ended_by(Ok(LeafEnd::Bound), c, keys + 1, moves + 1);
-                        }
-                    }
-                    NextKey::Past(k) => {
-                        return ended_by(
-                            Ok(LeafEnd::Bound),
-                            context::go_on(c, k, k.ikey),
-                            keys,
-                            moves + 1,
-                        );
-                    }
-                }
-            }
+        let Some(slot) = fast_path::fast_slot(leaf, c.position, c.cursor) else {
+            return ended_by(None, c, keys, moves);
+        };
+        let s = SlotReader { leaf, slot };
+        let stored = stored_key::store_key(s, buf, c.cursor);
+        c = context::go_on(c, stored, stored.ikey);
+        let Some(handed) = fast_path::hand_out(s, end, buf, stored) else {
+            return ended_by(Some(Ok(None)), c, keys, moves + 1);
+        };
+        if handed.last {
+            return ended_by(Some(Ok(None)), c, keys + 1, moves + 1);
         }
     }
     ended_by(
-        Err(Decline::MovesSpent),
+        Some(Err(Decline::MovesSpent)),
         c,
         found + (image.len() - done),
         image.len(),

@@ -2,17 +2,16 @@
 // until the walk ends, which is a count.
 ghost use Rattle.std.specs.Prelude.{◌≡◌, ◌+◌, ◌^◌, ◌≤◌, ◌<◌};
 ghost use Rattle.base.specs.Kit.{true, false, length};
-ghost use Rattle.walk.specs.Walk.{empty_context, walk_ok};
-ghost use Rattle.scan.specs.Machine.{layer_of, after_key, key_out, declined_with, stepped, advance};
-ghost use Rattle.scan.specs.CodeLoop.{Begun, came_to, goes_on, emitted_by, no_leaf, advance_by, advanced_of, keys_ahead};
+ghost use Rattle.walk.specs.Walk.{walk_ok};
+ghost use Rattle.scan.specs.Machine.{scan_of, after_key, key_out, declined_with, stepped, advance};
+ghost use Rattle.scan.specs.CodeLoop.{Begun, ending_with, run_with, no_leaf, advance_by, advanced_of, keys_ahead};
 
-use crate::along_leaf::LeafEnd;
+use crate::scan_ctx::Held;
 use crate::{along_leaf, scan_ctx};
 use base::Decline;
-use moves::context;
 use moves::context::{Outcome, ScanCtx, ScanState};
 use walk::handed_out;
-use walk::scan_state::{Answer, KeyOut, LayerContext, Stepped, Walk, WalkState};
+use walk::scan_state::{Answer, KeyOut, Stepped, Walk, WalkState};
 
 // What the loop comes to: how many keys were out, and the step that its moves make.
 #[derive(Clone, Copy)]
@@ -21,20 +20,16 @@ pub struct Advanced {
     pub stepped: Stepped,
 }
 
-// What the stack keeps of a layer, and what it has past its last.
-fn layer_of(c: ScanCtx) -> LayerContext
-    ensures { result ≡ layer_of c }
-{
-    LayerContext {
-        root: c.root,
-        leaf: c.leaf,
-    }
-}
-
-fn empty_context() -> LayerContext
-    ensures { result ≡ empty_context }
-{
-    LayerContext { root: 0, leaf: 0 }
+// Where the loop's moves end: with an answer, whether that is the last key, how many keys were out, and how many moves were made. What it
+// goes on with is told apart from buffer and stack, which are lent: in one struct with them it would lie in memory, and not in registers
+// (docs/DECISIONS.md S14). `last` stands beside the answer, as where a key is out the walk may go on or not.
+#[derive(Clone, Copy)]
+pub struct Ending {
+    pub answer: Answer,
+    pub last: bool,
+    pub ctx: ScanCtx,
+    pub keys: usize,
+    pub moves: usize,
 }
 
 // The key that the cursor has come to, with its value.
@@ -58,45 +53,38 @@ pub fn after_key(last: bool) -> WalkState
 }
 
 // A declined step: its decline, zero elsewhere, and the walk as it came.
-pub fn declined(decline: Decline, walk: Walk) -> Stepped
-    ensures { result ≡ declined_with decline walk }
+pub fn declined(decline: Decline, walk: &Walk) -> Stepped
+    ensures { result ≡ declined_with decline walk.now }
 {
     Stepped {
         answer: Err(decline),
         moves: 0,
         handed: handed_out::nothing_yet(),
-        walk,
+        walk: *walk,
     }
 }
 
-// A step by its answer, whether that is the last key, its moves, and what the loop holds after them.
-pub fn stepped(
-    walk: Walk,
-    answer: Answer,
-    last: bool,
-    moves: usize,
-    c: ScanCtx,
-    buf: [u8; 256],
-    stack: [LayerContext; 31],
-) -> Stepped
-    requires { walk.handed.count < 2 ^ 63 }
-    ensures { result ≡ stepped walk answer last moves (record { ctx = c; buf = buf; stack = stack }) }
+// A step by its answer, whether that is the last key, its moves, and what the loop holds after them. (The count is asked for here alone: it
+// may be any number in a record, and the test of a walk's numbers has it below the image's length, so that one more fits.)
+pub fn stepped(walk: &Walk, answer: Answer, last: bool, moves: usize, held: &Held) -> Stepped
+    requires { walk.now.handed.count < 2 ^ 63 }
+    ensures { result ≡ stepped walk.now answer last moves held.now }
 {
     match answer {
         Ok(Some(_)) => {
-            let handed = handed_out::one_more(walk.handed, c.depth);
+            let handed = handed_out::one_more(walk.handed, held.ctx.depth);
             Stepped {
                 answer,
                 moves,
                 handed,
-                walk: scan_ctx::walk_of(walk, after_key(last), handed, c, buf, stack),
+                walk: scan_ctx::walk_of(walk, after_key(last), handed, held),
             }
         }
         Ok(None) => Stepped {
             answer,
             moves,
             handed: walk.handed,
-            walk: scan_ctx::walk_of(walk, WalkState::Ended, walk.handed, c, buf, stack),
+            walk: scan_ctx::walk_of(walk, WalkState::Ended, walk.handed, held),
         },
         Err(decline) => declined(decline, walk),
     }
@@ -114,139 +102,111 @@ pub fn no_leaf(n: usize) -> Decline
     }
 }
 
-// Where the loop ends, but with a key.
-#[tactic(auto, unfolding(crate::specs::Machine::finished))]
-fn came_to(
-    walk: Walk,
-    answer: Answer,
-    keys: usize,
-    moves: usize,
-    c: ScanCtx,
-    buf: [u8; 256],
-    stack: [LayerContext; 31],
-) -> Advanced
-    requires { walk.handed.count < 2 ^ 63 }
-    ensures { result ≡ advanced_of walk (came_to answer false keys moves (record { ctx = c; buf = buf; stack = stack })) }
+fn ended(answer: Answer, ctx: ScanCtx, keys: usize, moves: usize) -> Ending
+    ensures { result ≡ ending_with answer false ctx keys moves }
 {
-    Advanced {
+    Ending {
+        answer,
+        last: false,
+        ctx,
         keys,
-        stepped: stepped(walk, answer, false, moves, c, buf, stack),
+        moves,
     }
 }
 
-// Whether the loop goes on past a key: a count does, but for the last.
-fn goes_on(whole: bool, last: bool) -> bool
-    ensures { result ≡ goes_on whole last }
+// Moves until the next key is out, or where the whole walk is asked for past every key, to the end, 22 or 23. `whole` is a count in place of a
+// step: one loop for both (docs/DECISIONS.md, S14). Neither an enum nor two closures would be plainer: it is asked twice, for the moves along
+// a leaf and past a key, and a closure could not go on with the loop. `tested` tells that the first move has tested its leaf's version, as
+// does a move along a leaf for the move after it: a move tests it once, and nothing is kept (S16).
+fn make_moves(walk: &Walk, image: &[u8], whole: bool, mut tested: bool, held: &mut Held) -> Ending
+    requires begun { Begun walk.now image.now tested }
+    requires from_walk { held.now ≡ scan_of walk.now }
+    ensures { advanced_of walk.now (run_with result held.new) ≡ advance_by whole walk.now image.now }
 {
-    whole && !last
-}
-
-// Where the loop ends with a key: a step hands it out, and a count is at its end.
-#[tactic(auto, unfolding(crate::specs::Machine::finished, base::specs::Pick::pick))]
-fn emitted(
-    walk: Walk,
-    whole: bool,
-    value: u64,
-    last: bool,
-    keys: usize,
-    moves: usize,
-    c: ScanCtx,
-    buf: [u8; 256],
-    stack: [LayerContext; 31],
-) -> Advanced
-    requires count_bound { walk.handed.count < 2 ^ 63 }
-    requires len_bound { c.cursor.offset + c.cursor.len ≤ 256 }
-    ensures { result ≡ advanced_of walk (emitted_by whole value last keys moves (record { ctx = c; buf = buf; stack = stack })) }
-{
-    if whole {
-        return came_to(walk, Ok(None), keys, moves, c, buf, stack);
-    }
-    Advanced {
-        keys,
-        stepped: stepped(walk, key_out(c, value), last, moves, c, buf, stack),
-    }
-}
-
-// Moves until the next key is out, or where the whole walk is asked for past every key, to the end, 22 or 23. `tested` tells that the
-// first move has tested its leaf's version.
-fn advance_by(walk: Walk, image: &[u8], whole: bool, mut tested: bool) -> Advanced
-    requires { Begun walk image.now tested }
-    ensures { result ≡ advance_by whole walk image.now }
-{
+    // Read for the proof, which did not close without: of what is lent, a length is known once it is read.
+    let _walk = *walk;
     let end = walk.bound.end();
-    let mut buf = walk.cursor.buf;
-    let mut stack = walk.stack;
-    let mut c = scan_ctx::ctx_of(walk);
+    let mut c = held.ctx;
     let mut moves = 0;
     let mut keys = 0;
     // No range: the moves along a leaf take many of them at once.
     while moves < image.len() {
         if along_leaf::is_along(c, whole) {
-            let a = along_leaf::along_leaf(image, end, &mut buf, c, keys, moves);
+            let a = along_leaf::along_leaf(image, end, &mut held.buf, c, keys, moves);
             c = a.ctx;
             keys = a.keys;
             moves = a.moves;
-            match a.end {
-                Ok(LeafEnd::Slow) => tested = true,
-                Ok(LeafEnd::Bound) => {
-                    return came_to(walk, Ok(None), keys, moves, c, buf, stack);
-                }
-                Err(decline) => {
-                    return came_to(walk, Err(decline), keys, moves, c, buf, stack);
-                }
+            if let Some(answer) = a.end {
+                return ended(answer, c, keys, moves);
             }
+            tested = true;
         }
         moves += 1;
         if let ScanState::Up = c.state {
             if c.depth == 0 {
-                return came_to(walk, Ok(None), keys, moves, c, buf, stack);
+                return ended(Ok(None), c, keys, moves);
             }
-            let depth = c.depth - 1;
-            let parent = stack[depth];
-            stack[depth] = empty_context();
-            c = context::in_layer(c, parent.root, parent.leaf, depth);
+            c = held.leave(c);
         }
-        let p = match moves::one_move(image, end, &mut buf, c, tested) {
+        let p = match moves::one_move(image, end, &mut held.buf, c, tested) {
             Ok(p) => p,
-            Err(decline) => {
-                return came_to(walk, Err(decline), keys, moves, c, buf, stack);
-            }
+            Err(decline) => return ended(Err(decline), c, keys, moves),
         };
         tested = false;
         c = p.ctx;
         match p.outcome {
             Outcome::Continue => {}
-            Outcome::Push(root) => {
-                let depth = c.depth;
-                stack[depth] = layer_of(c);
-                c = context::in_layer(c, root, c.leaf, depth + 1);
-            }
+            Outcome::Push(root) => c = held.enter(c, root),
             Outcome::Emit { value, last } => {
                 keys += 1;
-                if !goes_on(whole, last) {
-                    return emitted(walk, whole, value, last, keys, moves, c, buf, stack);
+                if !whole {
+                    return Ending {
+                        answer: key_out(c, value),
+                        last,
+                        ctx: c,
+                        keys,
+                        moves,
+                    };
+                }
+                if last {
+                    return ended(Ok(None), c, keys, moves);
                 }
             }
-            Outcome::Exhausted => {
-                return came_to(walk, Ok(None), keys, moves, c, buf, stack);
-            }
+            Outcome::Exhausted => return ended(Ok(None), c, keys, moves),
         }
     }
-    came_to(walk, Err(Decline::MovesSpent), keys, moves, c, buf, stack)
+    ended(Err(Decline::MovesSpent), c, keys, moves)
+}
+
+// The moves of a walk, and the step that they make.
+#[tactic(auto, using(crate::proofs::BeginLaws::raised), unfolding(crate::specs::Machine::finished))]
+fn advance_by(walk: &Walk, image: &[u8], whole: bool, tested: bool) -> Advanced
+    requires { Begun walk.now image.now tested }
+    ensures { result ≡ advance_by whole walk.now image.now }
+{
+    let mut held = scan_ctx::scan_of(walk);
+    let e = make_moves(walk, image, whole, tested, &mut held);
+    held.ctx = e.ctx;
+    Advanced {
+        keys: e.keys,
+        stepped: stepped(walk, e.answer, e.last, e.moves, &held),
+    }
 }
 
 // Moves until a key is out, the end, 22 or 23.
-pub fn advance_no_alloc(walk: Walk, image: &[u8], tested: bool) -> Stepped
-    requires { Begun walk image.now tested }
-    ensures { result ≡ advance walk image.now }
+#[tactic(auto, using(crate::proofs::RunLaws::steps_so))]
+pub fn advance_no_alloc(walk: &Walk, image: &[u8], tested: bool) -> Stepped
+    requires { Begun walk.now image.now tested }
+    ensures { result ≡ advance walk.now image.now }
 {
     advance_by(walk, image, false, tested).stepped
 }
 
 // How many keys the moves of a walk hand out, as many moves as the image has bytes.
+#[tactic(auto, unfolding(crate::specs::CodeLoop::advance_by, crate::specs::CodeLoop::keys_ahead))]
 pub fn count_ahead(walk: Walk, image: &[u8]) -> usize
     requires { walk_ok walk (length image.now) ≡ true }
     ensures { result ≡ keys_ahead walk image.now }
 {
-    advance_by(walk, image, true, false).keys
+    advance_by(&walk, image, true, false).keys
 }

@@ -8,56 +8,55 @@ ghost use Rattle.scan.specs.CodeLoop.{keys_left};
 
 use crate::{forward_ctx, scan_ctx};
 use base::Decline;
-use moves::fast_path::NextKey;
+use moves::fast_path::HandedKey;
 use moves::{context, fast_path, stored_key};
-use node::leaf::LeafReader;
+use node::leaf::{LeafReader, SlotReader};
 use search::traversal;
 use walk::scan_state::{KeyOut, Stepped, Walk, WalkState};
 use walk::walk_ok;
 
 // A step of a walk that has handed out a key. Most take the next slot's key, by the fast path; the loop makes every other, and its first
 // move does not test the leaf's version again.
-fn step_next(walk: Walk, image: &[u8]) -> Stepped
-    requires image_value { walk_ok walk (length image.now) ≡ true }
-    requires state_value { walk.state ≡ FindNext }
-    ensures { result ≡ advance walk image.now }
+#[tactic(auto, using(crate::proofs::BeginLaws::raised))]
+fn step_next(walk: &Walk, image: &[u8]) -> Stepped
+    requires image_value { walk_ok walk.now (length image.now) ≡ true }
+    requires state_value { walk.now.state ≡ FindNext }
+    ensures { result ≡ advance walk.now image.now }
 {
     if !traversal::is_leaf_there(image, walk.leaf) {
         return forward_ctx::declined(forward_ctx::no_leaf(image.len()), walk);
     }
-    let c = scan_ctx::ctx_of(walk);
+    let mut held = scan_ctx::scan_of(walk);
+    let c = held.ctx;
     let leaf = LeafReader {
         image,
         at: c.leaf as usize,
     };
-    match fast_path::fast_slot(leaf, c.position, c.cursor) {
-        None => forward_ctx::advance_no_alloc(walk, image, true),
-        Some(slot) => {
-            let end = walk.bound.end();
-            let mut buf = walk.cursor.buf;
-            let stored = stored_key::store_key(leaf, slot, &mut buf, c.cursor);
-            match fast_path::hand_out(leaf, end, &buf, slot, stored) {
-                NextKey::Out { k, value, last } => {
-                    let len = k.offset + k.len;
-                    let on = context::go_on(c, k, k.ikey);
-                    let answer = Ok(Some(KeyOut { len, value }));
-                    forward_ctx::stepped(walk, answer, last, 1, on, buf, walk.stack)
-                }
-                NextKey::Past(k) => {
-                    let on = context::go_on(c, k, k.ikey);
-                    forward_ctx::stepped(walk, Ok(None), false, 1, on, buf, walk.stack)
-                }
-            }
+    let Some(slot) = fast_path::fast_slot(leaf, c.position, c.cursor) else {
+        return forward_ctx::advance_no_alloc(walk, image, true);
+    };
+    // Read for the proof, which did not close without: of what is lent, a length is known once it is read.
+    let _walk = *walk;
+    let end = walk.bound.end();
+    let s = SlotReader { leaf, slot };
+    let stored = stored_key::store_key(s, &mut held.buf, c.cursor);
+    held.ctx = context::go_on(c, stored, stored.ikey);
+    match fast_path::hand_out(s, end, &held.buf, stored) {
+        Some(HandedKey { value, last }) => {
+            let len = stored.offset + stored.len;
+            forward_ctx::stepped(walk, Ok(Some(KeyOut { len, value })), last, 1, &held)
         }
+        None => forward_ctx::stepped(walk, Ok(None), false, 1, &held),
     }
 }
 
 // One key further. Declined with 21, 22 or 23, and then the walk as it came.
+#[tactic(auto, unfolding(crate::specs::Machine::step, base::specs::Pick::pick))]
 pub fn step(walk: Walk, image: &[u8]) -> Stepped
     ensures { result ≡ step walk image.now }
 {
     if !walk_ok::is_walk_ok(walk, image.len()) {
-        return forward_ctx::declined(Decline::WalkRange, walk);
+        return forward_ctx::declined(Decline::WalkRange, &walk);
     }
     match walk.state {
         WalkState::Ended => Stepped {
@@ -66,12 +65,13 @@ pub fn step(walk: Walk, image: &[u8]) -> Stepped
             handed: walk.handed,
             walk,
         },
-        WalkState::Start | WalkState::Retry => forward_ctx::advance_no_alloc(walk, image, false),
-        WalkState::FindNext => step_next(walk, image),
+        WalkState::Start | WalkState::Retry => forward_ctx::advance_no_alloc(&walk, image, false),
+        WalkState::FindNext => step_next(&walk, image),
     }
 }
 
 // How many keys the steps of a walk have yet to hand out, over an accepted image; none where the walk is declined with 21, or ended.
+#[tactic(auto, unfolding(crate::specs::CodeLoop::keys_left, base::specs::Pick::pick))]
 pub fn count_keys(walk: Walk, image: &[u8]) -> usize
     ensures { result ≡ keys_left walk image.now }
 {

@@ -1,16 +1,15 @@
 -- Choices by a number x that a call returned, and which the definition reads as a: for `search`, on the way to a return.
-use Rattle.std.specs.Prelude.{◌≡◌, ◌+◌, ◌≤◌, ◌<◌, Result, Ok, Option}
-use Rattle.std.specs.Ordering.{nat_cmp}
-use Rattle.std.proofs.lemmas.Cmp.{ranked}
-use Rattle.base.specs.Kit.{◌∙◌, Bool, true, false, List, ℕ, arith, length}
+use Rattle.std.specs.Prelude.{◌≡◌, ◌+◌, ◌≤◌, ◌<◌, Result, Ok, Option, Some, None, MatchOption}
+use Rattle.std.specs.Ordering.{is_le}
+use Rattle.base.specs.Kit.{refl, Bool, true, false, List, ℕ, arith, length}
 use Rattle.node.specs.Layout.{suffix_at}
-use Rattle.search.specs.Types.{Decline, Ordering, Less, Equal, Greater, Slot, Position, CursorPlace}
+use Rattle.search.specs.Types.{Decline, Ordering, Less, Equal, Greater, Slot, Position}
 use Rattle.search.proofs.TraversalLaws.{in_image}
 use Rattle.base.specs.Pick.{pick}
 use Rattle.base.specs.Decline.{and_then}
 use Rattle.key.specs.Order.{order}
 use Rattle.key.proofs.Order.{order_less, order_equal, order_greater}
-use Rattle.search.specs.Helper.{by_order, suffix_readable, not_shorter, not_below, past_inline}
+use Rattle.search.specs.Helper.{position, by_order, suffix_readable, not_shorter, not_below}
 
 -- By the order of a number x that a call returned, and which the definition reads as a.
 module _ {A : Type 0} (a b x : ℕ) (e : x ≡ a) where
@@ -26,21 +25,23 @@ module _ {A : Type 0} (a b x : ℕ) (e : x ≡ a) where
   unfolding by_order
   by-greater l m g z h d f = rw (← e, order_greater b x (omega arith)) f
 
--- What `cmp` answers is the order of the two numbers.
-pub ordered : (a b : ℕ) (r v : Ordering) → r ≡ nat_cmp a b → r ≡ v → order a b ≡ v
-ordered a b Less v e f = order_less a b (ranked a b Less e) ∙ f
-ordered a b Equal v e f = let q : a ≡ b = ranked a b Equal e in order_equal a b (omega arith) (omega arith) ∙ f
-ordered a b Greater v e f = order_greater a b (ranked a b Greater e) ∙ f
+-- By a test b of the stored order o that a call gave, and which the definition reads as r.
+module _ (o : Option Ordering) (b : Bool) (t : MatchOption o (b ≡ false) (λ x. b ≡ is_le x)) (r : Result (Option Ordering) Decline) (e : Ok o ≡ r) (i : ℕ)
+    (rest z : Result Position Decline) where
+  tested : (q : Option Ordering) → MatchOption q (b ≡ false) (λ x. b ≡ is_le x) → not_below q i rest ≡ pick b (Ok (position i)) rest
+  unfolding not_below pick
+  tested None s = rw s refl
+  tested (Some Less) s = rw s refl
+  tested (Some Equal) s = rw s refl
+  tested (Some Greater) s = rw s refl
 
-pub past-inline-as : (image : List ℕ) (leaf : ℕ) (k : CursorPlace) (i a x : ℕ) (z : Result Position Decline) → x ≡ a
-    → z ≡ past_inline image leaf k i (order k.len x) → z ≡ past_inline image leaf k i (order k.len a)
-past-inline-as image leaf k i a x z e g = rw (← e) g
+  pub not-below-on : b ≡ true → z ≡ Ok (position i) → z ≡ and_then r (λ q. not_below q i rest)
+  unfolding and_then pick
+  not-below-on s g = rw (← e, tested o t, s) g
 
--- By the stored order o that a call gave, which is v, and which the definition reads as r.
-pub not-below-as : (o v : Option Ordering) → o ≡ v → (r : Result (Option Ordering) Decline) (i : ℕ) (rest z : Result Position Decline) → Ok o ≡ r
-    → z ≡ not_below v i rest → z ≡ and_then r (λ q. not_below q i rest)
-unfolding and_then
-not-below-as o v h r i rest z e d = rw (← e, h) d
+  pub not-below_off : b ≡ false → z ≡ rest → z ≡ and_then r (λ q. not_below q i rest)
+  unfolding and_then pick
+  not-below_off s g = rw (← e, tested o t, s) g
 
 -- The answer of `is_not_shorter` on a number x that a call returned.
 module _ {A : Type 0} (a x : ℕ) (e : x ≡ a) (r : Bool) (p q z : A) where

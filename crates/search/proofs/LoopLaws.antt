@@ -8,7 +8,8 @@ use Rattle.base.proofs.Count.{left-more}
 use Rattle.search.specs.Types.{Decline, Unreadable, Ordering, Less, Equal, Greater, Position, Slot}
 use Rattle.node.specs.Layout.{permutation_at}
 use Rattle.node.specs.Permuter.{slot_at}
-use Rattle.search.specs.Helper.{position, slot_in, usable_slot, by_order}
+use Rattle.search.specs.CodeSlots.{usable_slot}
+use Rattle.search.specs.Helper.{position, slot_in, by_order}
 
 -- What an answer of `slot_at` says of the slot.
 usable_by : (b : Bool) (x s : Slot) → ◌≡◌ {A = Result Slot Decline} (Ok s) (pick b (Err Unreadable) (Ok x)) → (b ≡ false) × (s ≡ x)

@@ -1,10 +1,9 @@
--- What the code's tests say of `readable`, of the kind of a record, and of the descent to a leaf.
-use Rattle.std.specs.Prelude.{◌≡◌, ◌&&◌, ◌+◌, ◌-◌, ◌%◌, ◌≤◌, ◌<◌, Result, Ok, Err}
-use Rattle.base.specs.Kit.{refl, sym, ◌∙◌, Bool, true, false, not, and-eq-true_iff, List, ℕ, zero, suc, add-one, arith, leb-true, leb-false, eqb-true, le-leb, lt-leb, eq-eqb, ne_eqb, lt-ltb, le-ltb, not-true, not-false, leb, ltb, eqb, length}
+-- What `readable` says, and a record that is found; and the descent to a leaf.
+use Rattle.std.specs.Prelude.{◌≡◌, ◌&&◌, ◌+◌, ◌%◌, ◌≤◌, ◌<◌, Result, Ok, Err}
+use Rattle.base.specs.Kit.{refl, sym, ◌∙◌, Bool, true, false, not, and-eq-true_iff, List, ℕ, zero, suc, add-one, arith, leb-true, leb-false, eqb-true, le-leb, lt-leb, lt-ltb, le-ltb, not-false, leb, ltb, eqb, length}
 use Rattle.base.specs.Pick.{pick}
 use Rattle.base.specs.Decline.{and_then}
-use Rattle.node.specs.Version.{is_leaf, at_rest}
-use Rattle.node.specs.Layout.{version_at, nkeys_at}
+use Rattle.node.specs.Layout.{nkeys_at}
 use Rattle.search.specs.Traversal.{readable, record_at, by_kind, child_for, reach_from, reach}
 use Rattle.search.specs.Types.{Decline, Unreadable, RecordKind, Leaf, Internode}
 
@@ -14,41 +13,6 @@ module _ (image : List ℕ) (at n : ℕ) where
   in_image e =
       let both = (and-eq-true_iff (leb 8 at) (leb (at + n + 32) (length image))).0 e in
       (leb-true 8 at both.0, leb-true (at + n + 32) (length image) both.1)
-
-  -- the tests of `is_readable`, in its order
-  pub too_low : at < 8 → false ≡ readable image at n
-  unfolding readable
-  too_low h = rw (lt-leb 8 at h)
-
-  pub too_high : 8 ≤ at → length image < at + n + 32 → false ≡ readable image at n
-  unfolding readable
-  too_high h g = rw (le-leb 8 at h, lt-leb (at + n + 32) (length image) g)
-
-  room_by : (t : Bool) → leb n (length image - 32 - at) ≡ t → 8 ≤ at → at + 32 ≤ length image → t ≡ readable image at n
-  unfolding readable
-  room_by true e h g =
-      rw (le-leb 8 at h, le-leb (at + n + 32) (length image) (omega (arith, leb-true n (length image - 32 - at) e)))
-  room_by false e h g = too_high h (omega (arith, leb-false n (length image - 32 - at) e))
-
-  pub room : 8 ≤ at → at + 32 ≤ length image → leb n (length image - 32 - at) ≡ readable image at n
-  room = room_by _ refl
-
--- the tests of `record_at`, in its order: r is what `is_readable` said, v the version that was read
-module _ (image : List ℕ) (at : ℕ) where
-  pub not_aligned : (at % 8 ≡ 0 → ⊥) → Err Unreadable ≡ record_at image at
-  unfolding record_at pick
-  not_aligned h = rw (ne_eqb (at % 8) 0 h)
-
-  module _ (m : at % 8 ≡ 0) (r : Bool) (e : r ≡ readable image at 256) where
-    pub not-readable : not r ≡ true → Err Unreadable ≡ record_at image at
-    unfolding record_at pick
-    not-readable t = rw (eq-eqb (at % 8) 0 m, ← e, not-true r t)
-
-    pub versioned : not r ≡ false → (v : ℕ) → v ≡ version_at image at → (z : Result RecordKind Decline)
-        → z ≡ pick (not (at_rest v)) (Err Unreadable) (pick (not (is_leaf v)) (Ok Internode) (pick (readable image at 400) (Ok Leaf) (Err Unreadable)))
-        → z ≡ record_at image at
-    unfolding record_at pick
-    versioned t v f z g = rw (eq-eqb (at % 8) 0 m, ← e, not-false r t, ← f) g
 
 -- a choice that is not its first, or not its second
 pub not_first : {A : Type 0} (b : Bool) (x y z : A) → (x ≡ z → ⊥) → pick b x y ≡ z → (b ≡ false) × (y ≡ z)

@@ -19,10 +19,6 @@ position i = record { 0 = i }
 abbrev pub slot_in : List ℕ → ℕ → ℕ → Slot
 slot_in image leaf i = slot_at (permutation_at image leaf) (position i)
 
--- "22: .. a slot of 15": the slot that a permutation has at a position, where it is one of the leaf's 15 places.
-unfoldable pub usable_slot : ℕ → Position → Result Slot Decline
-usable_slot permutation p = pick (leb 15 (slot_at permutation p).0) (Err Unreadable) (Ok (slot_at permutation p))
-
 -- What the three orders come to.
 unfoldable pub by_order : {A : Type 0} → Ordering → A → A → A → A
 by_order Less less equal greater = less

@@ -1,3 +1,4 @@
 pub mod Types
 pub mod Traversal
 pub mod Helper
+pub mod CodeSlots

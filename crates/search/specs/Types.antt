@@ -8,5 +8,5 @@ pub use Rattle.node.specs.declared.permuter.Position.{Position}
 pub use Rattle.node.specs.declared.permuter.Slot.{Slot}
 pub use Rattle.search.specs.declared.helper.KeyIndexedPosition.{KeyIndexedPosition}
 pub use Rattle.search.specs.declared.helper.KeyIndexedPosition.TheVariants.{NotFound, Found}
-pub use Rattle.search.specs.declared.traversal.RecordKind.{RecordKind}
-pub use Rattle.search.specs.declared.traversal.RecordKind.TheVariants.{Leaf, Internode}
+pub use Rattle.node.specs.declared.nodeversion.RecordKind.{RecordKind}
+pub use Rattle.node.specs.declared.nodeversion.RecordKind.TheVariants.{Leaf, Internode}

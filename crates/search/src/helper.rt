@@ -1,16 +1,17 @@
-// Searches in a leaf (the Rust's helper.rs).
+// Searches in a leaf (the Rust's helper.rs). Positions are counted: a leaf's order is one number, and no slice for an iterator.
 ghost use Rattle.std.specs.Prelude.{◌≡◌, ◌+◌, ◌≤◌, ◌<◌, IfOk};
 ghost use Rattle.base.specs.Kit.{true};
 ghost use Rattle.base.specs.Decline.{and_then};
 ghost use Rattle.key.specs.Order.{order};
-ghost use Rattle.node.specs.Layout.{InLeaf, InSlot, permutation_at};
+ghost use Rattle.node.specs.Layout.{permutation_at, keylenx_at};
 ghost use Rattle.node.specs.Permuter.{size_of};
-ghost use Rattle.search.specs.Helper.{usable_slot, lower_with_position, suffix_readable, suffix_bytes, stored_order, not_shorter, after_inline, after_suffix, behind, past_inline, past_suffix, at_match, lower_with_suffix};
+ghost use Rattle.search.specs.CodeSlots.{usable_slot};
+ghost use Rattle.search.specs.Helper.{lower_with_position, suffix_readable, suffix_bytes, stored_order, not_shorter, after_inline, after_suffix, behind, past_inline, past_suffix, at_match, lower_with_suffix};
 
 use crate::traversal;
 use base::Decline;
-use cursor::cursor_key::CursorPlace;
-use node::leaf::LeafReader;
+use cursor::cursor_key::{CursorPlace, CursorReader};
+use node::leaf::{LeafReader, SlotKind, SlotReader};
 use node::permuter::{Position, Slot};
 use node::{leaf, permuter};
 use std::cmp::Ordering;
@@ -24,6 +25,7 @@ pub enum KeyIndexedPosition {
 }
 
 // The slot at a position, where it is one of the leaf's 15 places.
+#[tactic(auto, unfolding(crate::specs::CodeSlots::usable_slot, base::specs::Pick::pick), using(std::proofs::lemmas::Bool::Decides::nat_tests))]
 pub fn slot_at(permutation: u64, p: Position) -> Result<Slot, Decline>
     requires { p.0 < 15 }
     ensures value { result ≡ usable_slot permutation p }
@@ -38,14 +40,13 @@ pub fn slot_at(permutation: u64, p: Position) -> Result<Slot, Decline>
 
 // The first position whose ikey is not below `ikey`.
 fn lower_with_position(leaf: LeafReader, ikey: u64) -> Result<KeyIndexedPosition, Decline>
-    requires { InLeaf leaf.image.now leaf.at }
     ensures { result ≡ lower_with_position leaf.entry.image.now leaf.entry.at ikey }
 {
     let permutation = leaf.permutation();
     let size = permuter::size(permutation);
     for i in 0..size {
         let slot = slot_at(permutation, Position(i))?;
-        let slot_ikey = leaf.ikey(slot);
+        let slot_ikey = SlotReader { leaf, slot }.ikey();
         if ikey < slot_ikey {
             return Ok(KeyIndexedPosition::NotFound(Position(i)));
         }
@@ -57,188 +58,145 @@ fn lower_with_position(leaf: LeafReader, ikey: u64) -> Result<KeyIndexedPosition
 }
 
 // Whether a slot's suffix lies where it may be read.
-pub fn is_suffix_readable(leaf: LeafReader, slot: Slot) -> bool
-    requires { InSlot leaf.image.now leaf.at slot }
-    ensures { result ≡ suffix_readable leaf.entry.image.now leaf.entry.at slot }
+#[tactic(auto, unfolding(crate::specs::Helper::suffix_readable))]
+pub fn is_suffix_readable(s: SlotReader) -> bool
+    ensures { result ≡ suffix_readable s.entry.leaf.image.now s.entry.leaf.at s.entry.slot }
 {
-    let suffix = leaf.ksuf(slot);
-    traversal::is_readable(leaf.image, suffix.start as u64, suffix.len as u64)
+    let suffix = s.ksuf();
+    traversal::is_readable(s.leaf.image, suffix.start as u64, suffix.len as u64)
 }
 
 // A slot's suffix.
-pub fn stored_suffix<'a>(leaf: LeafReader<'a>, slot: Slot) -> &'a [u8]
-    requires in_slot { InSlot leaf.image.now leaf.at slot }
-    requires slot_value { suffix_readable leaf.image.now leaf.at slot ≡ true }
-    ensures { result.now ≡ suffix_bytes leaf.entry.image.now leaf.entry.at slot }
+#[tactic(auto, unfolding(crate::specs::Helper::suffix_readable, crate::specs::Helper::suffix_bytes), using(crate::proofs::TraversalLaws::in_image))]
+pub fn stored_suffix<'a>(s: SlotReader<'a>) -> &'a [u8]
+    requires { suffix_readable s.leaf.image.now s.leaf.at s.slot ≡ true }
+    ensures { result.now ≡ suffix_bytes s.entry.leaf.image.now s.entry.leaf.at s.entry.slot }
 {
-    let suffix = leaf.ksuf(slot);
-    key::part_of(leaf.image, suffix.start, suffix.len)
+    let suffix = s.ksuf();
+    key::part_of(s.leaf.image, suffix.start, suffix.len)
 }
 
 // The cursor's suffix against the slot's, where the slot has one, in plain byte order.
-pub fn compare_stored(
-    leaf: LeafReader,
-    k: CursorPlace,
-    buf: &[u8; 256],
-    slot: Slot,
-) -> Result<Option<Ordering>, Decline>
-    requires in_slot { InSlot leaf.image.now leaf.at slot }
-    requires len_bound { k.offset + k.len ≤ 256 }
-    ensures { result ≡ stored_order leaf.entry.image.now leaf.entry.at k buf.now slot }
+#[tactic(auto, unfolding(crate::specs::Helper::stored_order, node::specs::Layout::slot_kind, base::specs::Pick::pick), using(std::proofs::lemmas::Bool::Decides::nat_tests))]
+pub fn compare_stored(s: SlotReader, c: CursorReader) -> Result<Option<Ordering>, Decline>
+    ensures { result ≡ stored_order s.entry.leaf.image.now s.entry.leaf.at c.entry.place c.entry.buf.now s.entry.slot }
 {
-    if leaf.keylenx(slot) != leaf::KSUF_KEYLENX {
+    if s.kind() != SlotKind::Suffix {
         return Ok(None);
     }
-    if !is_suffix_readable(leaf, slot) {
+    if !is_suffix_readable(s) {
         return Err(Decline::Unreadable);
     }
-    Ok(Some(k.compare_suffix(buf, stored_suffix(leaf, slot))))
+    Ok(Some(c.compare_suffix(stored_suffix(s))))
 }
 
-// Whether a slot of the cursor's ikey has a suffix or a layer, or is no shorter inline key than the cursor.
+// Whether a slot of the cursor's ikey has a suffix or a layer, or is no shorter inline key than the cursor. By the number: it is ordered
+// against the cursor's length too, of whatever kind the slot is.
+#[tactic(auto, unfolding(crate::specs::Helper::not_shorter, base::specs::Pick::pick), using(std::proofs::lemmas::Bool::Decides::nat_tests))]
 fn is_not_shorter(keylenx: u8, len: usize) -> bool
     ensures { result ≡ not_shorter keylenx len }
 {
     keylenx == leaf::KSUF_KEYLENX || leaf::LAYER_KEYLENX <= keylenx || len <= usize::from(keylenx)
 }
 
-// The first position behind `start` whose slot has another ikey than the cursor, or a suffix, or a layer, or is not shorter.
-fn find_position_after_inline(
-    leaf: LeafReader,
-    k: CursorPlace,
-    start: Position,
-) -> Result<Position, Decline>
-    requires in_leaf { InLeaf leaf.image.now leaf.at }
-    requires start_bound { start.0 < size_of (permutation_at leaf.image.now leaf.at) }
-    ensures { result ≡ after_inline leaf.entry.image.now leaf.entry.at k (start.0 + 1) (behind leaf.entry.image.now leaf.entry.at start.0) }
+// A slot, and its position: one of its leaf's.
+#[derive(Clone, Copy)]
+struct FoundSlot<'a> {
+    s: SlotReader<'a>,
+    position: Position,
+    ghost in_size: { position.0 < size_of (permutation_at s.leaf.image.now s.leaf.at) },
+}
+
+// The first position behind a slot's whose slot has another ikey than the cursor, or a suffix, or a layer, or is not shorter.
+fn find_position_after_inline(start: FoundSlot, k: CursorPlace) -> Result<Position, Decline>
+    ensures { result ≡ after_inline start.entry.s.leaf.image.now start.entry.s.leaf.at k (start.entry.position.0 + 1) (behind start.entry.s.leaf.image.now start.entry.s.leaf.at start.entry.position.0) }
 {
+    let leaf = start.s.leaf;
     let permutation = leaf.permutation();
     let size = permuter::size(permutation);
-    for i in start.0 + 1..size { // the match itself is shorter
+    for i in start.position.0 + 1..size { // the match itself is shorter
         let slot = slot_at(permutation, Position(i))?;
-        if leaf.ikey(slot) != k.ikey {
-            return Ok(Position(i));
-        }
-        if is_not_shorter(leaf.keylenx(slot), k.len) {
+        let s = SlotReader { leaf, slot };
+        if s.ikey() != k.ikey || is_not_shorter(s.keylenx(), k.len) {
             return Ok(Position(i));
         }
     }
     Ok(Position(size))
 }
 
-// The first position behind `start` whose slot has another ikey than the cursor, or a suffix not below the cursor's.
-// (Its loop and the one above ask different things of a slot; one loop over a closure is no plainer.)
-fn find_position_after_suffix(
-    leaf: LeafReader,
-    k: CursorPlace,
-    buf: &[u8; 256],
-    start: Position,
-) -> Result<Position, Decline>
-    requires in_leaf { InLeaf leaf.image.now leaf.at }
-    requires start_bound { start.0 < size_of (permutation_at leaf.image.now leaf.at) }
-    requires len_bound { k.offset + k.len ≤ 256 }
-    ensures { result ≡ after_suffix leaf.entry.image.now leaf.entry.at k buf.now (start.0 + 1) (behind leaf.entry.image.now leaf.entry.at start.0) }
+// The first position behind a slot's whose slot has another ikey than the cursor, or a suffix not below the cursor's.
+// (Its loop and the one above ask different things of a slot, this one with a decline: one loop over a closure would want a contract for the
+// closure, and be no plainer.)
+fn find_position_after_suffix(start: FoundSlot, c: CursorReader) -> Result<Position, Decline>
+    ensures { result ≡ after_suffix start.entry.s.leaf.image.now start.entry.s.leaf.at c.entry.place c.entry.buf.now (start.entry.position.0 + 1) (behind start.entry.s.leaf.image.now start.entry.s.leaf.at start.entry.position.0) }
 {
+    let leaf = start.s.leaf;
     let permutation = leaf.permutation();
     let size = permuter::size(permutation);
-    for i in start.0 + 1..size {
+    for i in start.position.0 + 1..size {
         let slot = slot_at(permutation, Position(i))?;
-        if leaf.ikey(slot) != k.ikey {
+        let s = SlotReader { leaf, slot };
+        if s.ikey() != c.place.ikey {
             return Ok(Position(i));
         }
-        match compare_stored(leaf, k, buf, slot)? {
-            Some(Ordering::Less) => {
-                return Ok(Position(i));
-            }
-            Some(Ordering::Equal) => {
-                return Ok(Position(i));
-            }
-            Some(Ordering::Greater) => {}
-            None => {}
+        if compare_stored(s, c)?.is_some_and(Ordering::is_le) {
+            return Ok(Position(i));
         }
     }
     Ok(Position(size))
 }
 
-// Where a cursor that ends within its ikey goes on, at the first slot of that ikey: position `p`.
-fn past_inline(
-    leaf: LeafReader,
-    k: CursorPlace,
-    p: Position,
-    keylenx: usize,
-) -> Result<Position, Decline>
-    requires in_leaf { InLeaf leaf.image.now leaf.at }
-    requires p_bound { p.0 < size_of (permutation_at leaf.image.now leaf.at) }
-    ensures { result ≡ past_inline leaf.entry.image.now leaf.entry.at k p.0 (order k.len keylenx) }
+// Where a cursor that ends within its ikey goes on, at the first slot of that ikey. By the number: it is ordered against the cursor's length.
+#[tactic(auto, unfolding(crate::specs::Helper::past_inline, key::specs::Order::order, base::specs::Pick::pick), using(std::proofs::lemmas::Bool::Decides::nat_tests))]
+fn past_inline(found: FoundSlot, k: CursorPlace) -> Result<Position, Decline>
+    ensures { result ≡ past_inline found.entry.s.leaf.image.now found.entry.s.leaf.at k found.entry.position.0 (order k.len (keylenx_at found.entry.s.leaf.image.now found.entry.s.leaf.at found.entry.s.slot)) }
 {
-    match k.len.cmp(&keylenx) {
-        Ordering::Less => Ok(p),
-        Ordering::Equal => Ok(Position(p.0 + 1)),
-        Ordering::Greater => find_position_after_inline(leaf, k, p),
+    match k.len.cmp(&usize::from(found.s.keylenx())) {
+        Ordering::Less => Ok(found.position),
+        Ordering::Equal => Ok(Position(found.position.0 + 1)),
+        Ordering::Greater => find_position_after_inline(found, k),
     }
 }
 
-// Where a cursor that goes on past its ikey goes on, at the first slot of that ikey: position `p`.
+// Where a cursor that goes on past its ikey goes on, at the first slot of that ikey.
 #[tactic(auto, unfolding(crate::specs::Helper::past_suffix, base::specs::Decline::and_then))]
-fn past_suffix(
-    leaf: LeafReader,
-    k: CursorPlace,
-    buf: &[u8; 256],
-    p: Position,
-    slot: Slot,
-) -> Result<Position, Decline>
-    requires in_slot { InSlot leaf.image.now leaf.at slot }
-    requires p_bound { p.0 < size_of (permutation_at leaf.image.now leaf.at) }
-    requires len_bound { k.offset + k.len ≤ 256 }
-    ensures { result ≡ and_then (stored_order leaf.entry.image.now leaf.entry.at k buf.now slot) (past_suffix leaf.entry.image.now leaf.entry.at k buf.now p.0) }
+fn past_suffix(found: FoundSlot, c: CursorReader) -> Result<Position, Decline>
+    ensures { result ≡ and_then (stored_order found.entry.s.leaf.image.now found.entry.s.leaf.at c.entry.place c.entry.buf.now found.entry.s.slot) (past_suffix found.entry.s.leaf.image.now found.entry.s.leaf.at c.entry.place c.entry.buf.now found.entry.position.0) }
 {
-    match compare_stored(leaf, k, buf, slot)? {
-        Some(Ordering::Less) => Ok(p),
-        Some(Ordering::Equal) => Ok(Position(p.0 + 1)),
-        Some(Ordering::Greater) => find_position_after_suffix(leaf, k, buf, p),
-        None => find_position_after_suffix(leaf, k, buf, p),
+    match compare_stored(found.s, c)? {
+        Some(Ordering::Less) => Ok(found.position),
+        Some(Ordering::Equal) => Ok(Position(found.position.0 + 1)),
+        Some(Ordering::Greater) | None => find_position_after_suffix(found, c),
     }
 }
 
-// Where the walk goes on at the first slot of the cursor's ikey: position `p`.
-fn at_match(
-    leaf: LeafReader,
-    k: CursorPlace,
-    buf: &[u8; 256],
-    p: Position,
-    slot: Slot,
-) -> Result<Position, Decline>
-    requires in_slot { InSlot leaf.image.now leaf.at slot }
-    requires p_bound { p.0 < size_of (permutation_at leaf.image.now leaf.at) }
-    requires len_bound { k.offset + k.len ≤ 256 }
-    ensures { result ≡ at_match leaf.entry.image.now leaf.entry.at k buf.now p.0 slot }
+// Where the walk goes on at the first slot of the cursor's ikey.
+#[tactic(auto, unfolding(crate::specs::Helper::at_match, crate::specs::Helper::past_layer, node::specs::Layout::slot_kind, base::specs::Pick::pick), using(std::proofs::lemmas::Bool::Decides::nat_tests))]
+fn at_match(found: FoundSlot, c: CursorReader) -> Result<Position, Decline>
+    ensures { result ≡ at_match found.entry.s.leaf.image.now found.entry.s.leaf.at c.entry.place c.entry.buf.now found.entry.position.0 found.entry.s.slot }
 {
-    let keylenx = leaf.keylenx(slot);
-    if leaf::LAYER_KEYLENX <= keylenx {
-        if k.has_suffix() {
-            return Ok(Position(p.0 + 1));
+    if found.s.kind() == SlotKind::Layer {
+        if c.place.has_suffix() {
+            return Ok(Position(found.position.0 + 1));
         }
-        return Ok(p);
+        return Ok(found.position);
     }
-    if !k.has_suffix() {
-        return past_inline(leaf, k, p, usize::from(keylenx));
+    if !c.place.has_suffix() {
+        return past_inline(found, c.place);
     }
-    past_suffix(leaf, k, buf, p, slot)
+    past_suffix(found, c)
 }
 
 // Where a walk that has come to the cursor goes on in a leaf.
 #[tactic(auto, unfolding(crate::specs::Helper::lower_with_suffix, crate::specs::Helper::at_found, base::specs::Decline::and_then))]
-pub fn lower_with_suffix(
-    leaf: LeafReader,
-    k: CursorPlace,
-    buf: &[u8; 256],
-) -> Result<Position, Decline>
-    requires in_leaf { InLeaf leaf.image.now leaf.at }
-    requires len_bound { k.offset + k.len ≤ 256 }
-    ensures { result ≡ lower_with_suffix leaf.entry.image.now leaf.entry.at k buf.now }
+pub fn lower_with_suffix(leaf: LeafReader, c: CursorReader) -> Result<Position, Decline>
+    ensures { result ≡ lower_with_suffix leaf.entry.image.now leaf.entry.at c.entry.place c.entry.buf.now }
 {
-    match lower_with_position(leaf, k.ikey)? {
+    match lower_with_position(leaf, c.place.ikey)? {
         KeyIndexedPosition::NotFound(p) => Ok(p),
-        KeyIndexedPosition::Found(p, slot) => at_match(leaf, k, buf, p, slot),
+        KeyIndexedPosition::Found(position, slot) => {
+            let s = SlotReader { leaf, slot };
+            at_match(FoundSlot { s, position }, c)
+        }
     }
 }

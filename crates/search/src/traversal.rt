@@ -1,20 +1,18 @@
 // From a layer's root to a leaf (the Rust's traversal.rs). The Rust follows pointers and waits for stable versions; here a
 // record is read at an offset of the lent image, and what cannot be read is declined.
 ghost use Rattle.std.specs.Prelude.{◌≡◌, ◌≤◌};
-ghost use Rattle.node.specs.Layout.{InInternode, nkeys_at};
+ghost use Rattle.node.specs.Layout.{nkeys_at};
 ghost use Rattle.search.specs.Traversal.{readable, record_at, leaf_there, child_for, reach};
 
 use base::Decline;
-use node::{internode, ksearch, nodeversion};
+use node::internode::{INTERNODE_SIZE, InternodeReader};
+use node::leaf::LEAF_SIZE;
+use node::nodeversion::RecordKind;
+use node::{ksearch, nodeversion};
 
-// What stands at an offset.
-#[derive(Clone, Copy, Debug, PartialEq, Eq)]
-pub enum RecordKind {
-    Leaf,
-    Internode,
-}
-
-// Whether n bytes at an offset lie between byte 8 and the trailer.
+// Whether n bytes at an offset lie between byte 8 and the trailer. This and the two below are functions of the image and an offset, and no
+// methods of a reader: the offset may be any number, and whether a reader of a record may stand there is what they find out.
+#[tactic(auto, unfolding(crate::specs::Traversal::readable), using(std::proofs::lemmas::Bool::Decides::nat_tests))]
 pub fn is_readable(image: &[u8], at: u64, n: u64) -> bool
     ensures { result ≡ readable image.now at n }
 {
@@ -23,26 +21,32 @@ pub fn is_readable(image: &[u8], at: u64, n: u64) -> bool
 }
 
 // What a move finds at an offset.
+#[tactic(auto, unfolding(crate::specs::Traversal::record_at, base::specs::Pick::pick), using(std::proofs::lemmas::Bool::Decides::nat_tests))]
 fn record_at(image: &[u8], at: u64) -> Result<RecordKind, Decline>
     ensures { result ≡ record_at image.now at }
 {
-    if at % 8 != 0 || !is_readable(image, at, 256) {
+    if at % 8 != 0 || !is_readable(image, at, INTERNODE_SIZE as u64) {
         return Err(Decline::Unreadable);
     }
-    let version = nodeversion::version(image, at as usize);
+    let version = InternodeReader {
+        image,
+        at: at as usize,
+    }
+    .version();
     if !nodeversion::at_rest(version) {
         return Err(Decline::Unreadable);
     }
     if !nodeversion::is_leaf(version) {
         return Ok(RecordKind::Internode);
     }
-    if !is_readable(image, at, 400) {
+    if !is_readable(image, at, LEAF_SIZE as u64) {
         return Err(Decline::Unreadable);
     }
     Ok(RecordKind::Leaf)
 }
 
 // Whether a leaf stands at an offset.
+#[tactic(auto, unfolding(crate::specs::Traversal::leaf_there, crate::specs::Traversal::found_leaf, crate::specs::Traversal::by_kind))]
 pub fn is_leaf_there(image: &[u8], at: u64) -> bool
     ensures { result ≡ leaf_there image.now at }
 {
@@ -50,14 +54,12 @@ pub fn is_leaf_there(image: &[u8], at: u64) -> bool
 }
 
 // The child of an internode that a search goes to.
-fn child_for(image: &[u8], at: usize, ikey: u64) -> u64
-    requires in_internode { InInternode image.now at }
-    requires at_bound { nkeys_at image.now at ≤ 15 }
-    ensures { result ≡ child_for image.now at ikey }
+#[tactic(auto, unfolding(crate::specs::Traversal::child_for))]
+fn child_for(node: InternodeReader, ikey: u64) -> u64
+    requires { nkeys_at node.image.now node.at ≤ 15 }
+    ensures { result ≡ child_for node.entry.image.now node.entry.at ikey }
 {
-    let n = internode::nkeys(image, at);
-    let i = ksearch::upper_bound_internode(image, at, n as usize, ikey);
-    internode::child(image, at, i)
+    node.child(ksearch::upper_bound_internode(node, usize::from(node.nkeys()), ikey))
 }
 
 // The leaf that a search for `ikey` comes to from a layer's root.
@@ -65,16 +67,21 @@ pub fn reach_leaf_for_scan(image: &[u8], root: u64, ikey: u64) -> Result<u64, De
     ensures { result ≡ reach image.now ikey root }
 {
     let mut node = root;
+    // No range: how many internodes lie above the leaf shows only on the way.
     loop {
         match record_at(image, node)? {
             RecordKind::Leaf => {
                 return Ok(node);
             }
             RecordKind::Internode => {
-                if 15 < internode::nkeys(image, node as usize) {
+                let internode = InternodeReader {
+                    image,
+                    at: node as usize,
+                };
+                if 15 < internode.nkeys() {
                     return Err(Decline::Unreadable);
                 }
-                let child = child_for(image, node as usize, ikey);
+                let child = child_for(internode, ikey);
                 if node <= child {
                     return Err(Decline::Unreadable);
                 }

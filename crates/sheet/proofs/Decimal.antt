@@ -24,8 +24,8 @@ unfolding decimal decimal_in pick
 decimal-more x h g =
     rw (le-ltb x 10 h) (ap (λ (l : List ℕ). l ++ ((48 + x % 10) ∷ [])) (sym (enough 18 (x / 10) (omega arith))))
 
-pub decimal-one-length : (x : ℕ) → x < 10 → length (decimal x) ≡ 1
-decimal-one-length x h = rw (decimal-one x h)
+pub decimal_one_length : (x : ℕ) → x < 10 → length (decimal x) ≡ 1
+decimal_one_length x h = rw (decimal-one x h)
 
 -- as many digits as powers of ten that are no greater, beside the first
 size : (n k x : ℕ) → k < n → 10 ^ k ≤ x → x < 10 * 10 ^ k → length (decimal_in n x) ≡ k + 1
@@ -38,9 +38,9 @@ size (suc n) (suc k) x h l u =
     let r : length (decimal_in n (x / 10)) ≡ k + 1 = size n k (x / 10) (omega arith) (omega arith) (omega arith) in
     rw (le-ltb x 10 (omega arith)) (omega (arith, length-append (decimal_in n (x / 10)) ((48 + x % 10) ∷ []), r))
 
-pub decimal-size : (k x : ℕ) → k < 20 → 10 ^ k ≤ x → x < 10 * 10 ^ k → length (decimal x) ≡ k + 1
+pub decimal_size : (k x : ℕ) → k < 20 → 10 ^ k ≤ x → x < 10 * 10 ^ k → length (decimal x) ≡ k + 1
 unfolding decimal
-decimal-size k x = size 20 k x
+decimal_size k x = size 20 k x
 
 -- One to twenty digits: at each turn one digit, alone or behind what came before.
 one_more_lem : (b : Bool) (x y n : ℕ) (l : List ℕ) → length l ≤ n
@@ -54,9 +54,9 @@ unfolding decimal_in
 at_most zero x = omega arith
 at_most (suc n) x = (one_more_lem (ltb x 10) (48 + x) (48 + x % 10) n (decimal_in n (x / 10)) (at_most n (x / 10))).1
 
-pub decimal-length : (x : ℕ) → (1 ≤ length (decimal x)) × (length (decimal x) ≤ 20)
+pub decimal_length : (x : ℕ) → (1 ≤ length (decimal x)) × (length (decimal x) ≤ 20)
 unfolding decimal decimal_in
-decimal-length x = one_more_lem (ltb x 10) (48 + x) (48 + x % 10) 19 (decimal_in 19 (x / 10)) (at_most 19 (x / 10))
+decimal_length x = one_more_lem (ltb x 10) (48 + x) (48 + x % 10) 19 (decimal_in 19 (x / 10)) (at_most 19 (x / 10))
 
 -- The last m digits of x, the highest of them first; all of them are its decimal.
 unfoldable pub lasts : ℕ → ℕ → List ℕ

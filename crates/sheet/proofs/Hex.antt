@@ -4,39 +4,39 @@ use Rattle.base.specs.Kit.{refl, ◌∙◌, List, [], ℕ, suc, add-one, arith, 
 use Rattle.sheet.specs.Sheet.{hex_digit, hex_bytes, hex_key}
 use Rattle.sheet.proofs.Paste.{paste-first}
 
-pub hex_bytes-length : (s : List ℕ) → length (hex_bytes s) ≡ 2 * length s
+pub hex_bytes_length : (s : List ℕ) → length (hex_bytes s) ≡ 2 * length s
 unfolding hex_bytes
-hex_bytes-length [] = refl
-hex_bytes-length (b ∷ s) = omega (arith, hex_bytes-length s)
+hex_bytes_length [] = refl
+hex_bytes_length (b ∷ s) = omega (arith, hex_bytes_length s)
 
 -- the empty key, and any other
-pub hex_key-none : (s : List ℕ) → length s ≡ 0 → hex_key s ≡ 45 ∷ []
+pub hex_key_none : (s : List ℕ) → length s ≡ 0 → hex_key s ≡ 45 ∷ []
 unfolding hex_key
-hex_key-none [] e = refl
-hex_key-none (b ∷ s) e = absurd (omega arith)
+hex_key_none [] e = refl
+hex_key_none (b ∷ s) e = absurd (omega arith)
 
-pub hex_key-some : (s : List ℕ) → (length s ≡ 0 → ⊥) → hex_key s ≡ hex_bytes s
+pub hex_key_some : (s : List ℕ) → (length s ≡ 0 → ⊥) → hex_key s ≡ hex_bytes s
 unfolding hex_key
-hex_key-some [] h = absurd (h refl)
-hex_key-some (b ∷ s) h = refl
+hex_key_some [] h = absurd (h refl)
+hex_key_some (b ∷ s) h = refl
 
 -- The digits of the bytes from i on, written at 2 * i: the two of byte i, then those of the bytes after it; none at the end.
 module _ (out key : List ℕ) (i : ℕ) where
-  pub hex-more : i < length key → 2 * length key ≤ length out
+  pub hex_more : i < length key → 2 * length key ≤ length out
       → paste (set (set out (2 * i) (hex_digit (get_or key i 0 / 16))) (2 * i + 1) (hex_digit (get_or key i 0 % 16)))
       (2 * (i + 1)) (hex_bytes (drop (i + 1) key)) (length (hex_bytes (drop (i + 1) key)))
       ≡ paste out (2 * i) (hex_bytes (drop i key)) (length (hex_bytes (drop i key)))
   unfolding hex_bytes
-  hex-more h g =
+  hex_more h g =
       let high = hex_digit (get_or key i 0 / 16) in
       let low = hex_digit (get_or key i 0 % 16) in
       let rest = hex_bytes (drop (suc i) key) in
-      let n : length rest + 2 * suc i ≡ 2 * length key = omega (arith, hex_bytes-length (drop (suc i) key), length-drop (suc i) key) in
+      let n : length rest + 2 * suc i ≡ 2 * length key = omega (arith, hex_bytes_length (drop (suc i) key), length-drop (suc i) key) in
       let m : length (set out (2 * i) high) ≡ length out = length-set out (2 * i) high in
       let e : 2 * (i + 1) ≡ 2 * i + 1 + 1 = omega arith in
       rw (e, add-one i, drop-cons key i 0 h)
       (paste-first (set out (2 * i) high) (2 * i + 1) low rest (omega arith) ∙ paste-first out (2 * i) high (low ∷ rest) (omega arith))
 
-  pub hex-none : length key ≤ i → out ≡ paste out (2 * i) (hex_bytes (drop i key)) (length (hex_bytes (drop i key)))
+  pub hex_none : length key ≤ i → out ≡ paste out (2 * i) (hex_bytes (drop i key)) (length (hex_bytes (drop i key)))
   unfolding hex_bytes
-  hex-none h = rw (drop_of_length-le key h) (paste-zero out (2 * i) [])
+  hex_none h = rw (drop_of_length-le key h) (paste-zero out (2 * i) [])

@@ -6,8 +6,8 @@ use Rattle.sheet.specs.Sheet.{decimal}
 use Rattle.sheet.specs.Written.{written_len, written_out}
 
 -- a store is a piece of one
-pub paste-one : (d : List ℕ) (at v : ℕ) → at < length d → set d at v ≡ paste d at (v ∷ []) 1
-paste-one d at v h = rw (add-one, append_snoc) (set_split d at v h)
+pub paste_one : (d : List ℕ) (at v : ℕ) → at < length d → set d at v ≡ paste d at (v ∷ []) 1
+paste_one d at v h = rw (add-one, append_snoc) (set_split d at v h)
 
 module _ (d : List ℕ) (at : ℕ) where
   -- two pieces, the second right after the first, are one
@@ -27,12 +27,12 @@ module _ (d : List ℕ) (at : ℕ) where
       → set (paste d at a (length a)) n v ≡ paste d at (a ++ (v ∷ [])) (length (a ++ (v ∷ [])))
   paste_snoc a v n e h =
       let l : length (paste d at a (length a)) ≡ length d = length-paste d at a (length a) (omega arith) (le_refl (length a)) in
-      paste-one (paste d at a (length a)) n v (omega arith) ∙ paste-append a (v ∷ []) n e (omega arith)
+      paste_one (paste d at a (length a)) n v (omega arith) ∙ paste-append a (v ∷ []) n e (omega arith)
 
   -- one more in front of a piece, stored before it
   pub paste-first : (v : ℕ) (s : List ℕ) → at + length (v ∷ s) ≤ length d
       → paste (set d at v) (at + 1) s (length s) ≡ paste d at (v ∷ s) (length (v ∷ s))
-  paste-first v s h = rw (paste-one d at v (omega arith)) (paste-append (v ∷ []) s (at + 1) refl (omega arith))
+  paste-first v s h = rw (paste_one d at v (omega arith)) (paste-append (v ∷ []) s (at + 1) refl (omega arith))
 
   -- one more behind a piece, stored before it
   pub paste-last : (l : List ℕ) (v : ℕ) → at + length l < length d

@@ -1,8 +1,8 @@
 // The lines of sheet edition 1, written into a lent buffer.
 //
 // Interface: `first_line`, `pair_line`, `last_line` and `refused_line`. None has a `requires`: where the buffer is too short for
-// the line nothing is written, and the length is 0, which no line has: an Option would say no more. What stands past the written
-// length stays as it was.
+// the line nothing is written, and the length is 0, which no line has: a line is kept as its bytes and this length, and an Option would only be
+// opened for it. What stands past the written length stays as it was.
 #![tactic(auto)]
 
 ghost use Rattle.std.specs.Prelude.{◌∷◌, ◌++◌, ◌≡◌, ◌+◌, ◌*◌, ◌≤◌, ◌<◌};
@@ -24,6 +24,7 @@ pub fn first_line(out: &mut [u8], count: u64) -> usize
 }
 
 // The line of one key and its value. The first test keeps the sum in the second from wrapping.
+#[tactic(auto, using(crate::proofs::Decimal::decimal_length))]
 pub fn pair_line(out: &mut [u8], key: &[u8], value: u64) -> usize
     ensures { (result ≡ written_len (pair_line (record { key = key.entry.now; value = value })) out.old)
         × (out.new ≡ written_out (pair_line (record { key = key.entry.now; value = value })) out.old) }
@@ -54,6 +55,7 @@ pub fn refused_line(out: &mut [u8], number: u64) -> usize
 }
 
 // A line of constant text and a number.
+#[tactic(auto, using(crate::proofs::Decimal::decimal_length))]
 fn word_line(out: &mut [u8], word: &[u8], x: u64) -> usize
     ensures { (result ≡ written_len (word.now ++ decimal x ++ (10 ∷ [])) out.old)
         × (out.new ≡ written_out (word.now ++ decimal x ++ (10 ∷ [])) out.old) }
@@ -67,6 +69,7 @@ fn word_line(out: &mut [u8], word: &[u8], x: u64) -> usize
 }
 
 // The decimal of x and a newline into out, from `at` on; the place after them.
+#[tactic(auto, using(crate::proofs::Paste::paste_snoc))]
 fn put_decimal_end(out: &mut [u8], at: usize, x: u64) -> usize
     requires { at + length (decimal x) < length out.old }
     ensures { (result ≡ at + length (decimal x) + 1)
@@ -78,6 +81,7 @@ fn put_decimal_end(out: &mut [u8], at: usize, x: u64) -> usize
 }
 
 // How many digits x has.
+#[tactic(auto, using(crate::proofs::Decimal::decimal_one_length, crate::proofs::Decimal::decimal_size))]
 fn decimal_len(x: u64) -> usize
     ensures { result ≡ length (decimal x) }
 {
@@ -88,6 +92,7 @@ fn decimal_len(x: u64) -> usize
 }
 
 // The decimal of x into out, from `at` on, its last digit first; the place after it.
+// (By index: over the reversed iter_mut of the part the proof did not close.)
 fn put_decimal(out: &mut [u8], at: usize, x: u64) -> usize
     requires { at + length (decimal x) ≤ length out.old }
     ensures { (result ≡ at + length (decimal x))
@@ -103,6 +108,7 @@ fn put_decimal(out: &mut [u8], at: usize, x: u64) -> usize
 }
 
 // How many bytes a key takes in hex.
+#[tactic(auto, using(std::proofs::lemmas::Bool::Decides::nat_tests, crate::proofs::Hex::hex_bytes_length, crate::proofs::Hex::hex_key_none, crate::proofs::Hex::hex_key_some))]
 fn hex_key_len(key: &[u8]) -> usize
     ensures { result ≡ length (hex_key key.now) }
 {
@@ -110,6 +116,7 @@ fn hex_key_len(key: &[u8]) -> usize
 }
 
 // A key in hex at the front of out, `-` for the empty key.
+#[tactic(auto, using(std::proofs::lemmas::Bool::Decides::nat_tests, crate::proofs::Hex::hex_bytes_length, crate::proofs::Hex::hex_key_none, crate::proofs::Hex::hex_key_some, crate::proofs::Paste::paste_one))]
 fn put_hex_key(out: &mut [u8], key: &[u8])
     requires { length (hex_key key.now) ≤ length out.old }
     ensures { out.new ≡ paste out.old 0 (hex_key key.now) (length (hex_key key.now)) }
@@ -122,6 +129,7 @@ fn put_hex_key(out: &mut [u8], key: &[u8])
 }
 
 // Two hex digits for each byte of a key, at the front of out.
+#[tactic(auto, using(crate::proofs::Hex::hex_more, crate::proofs::Hex::hex_none))]
 fn put_hex(out: &mut [u8], key: &[u8])
     requires { 2 * length key.now ≤ length out.old }
     ensures { out.new ≡ paste out.old 0 (hex_bytes key.now) (length (hex_bytes key.now)) }

@@ -4,6 +4,8 @@
 // output fails they end.
 #![tactic(auto)]
 
+ghost use Rattle.std.specs.Prelude.{◌≤◌, length};
+
 use base::Decline;
 use key::first;
 use std::io;
@@ -19,7 +21,7 @@ fn write_sheet(rt: &impl Print, image: &[u8]) -> io::Result<()> {
         let Ok(Some(line)) = listed::next_line(listing, image) else {
             break;
         };
-        rt.write_all(first(&line.bytes, line.len))?;
+        rt.write_all(line.text())?;
         listing = line.listing;
     }
     Ok(())
@@ -37,13 +39,31 @@ fn put_refused(rt: &impl Print, decline: Decline) -> io::Result<()> {
     rt.write_all(first(&line, n))
 }
 
+// Reads until the space is full, the input ends or a read fails, and returns how many bytes it put at the start of it. A read that goes on
+// takes a byte at least.
+fn read_full(input: &mut impl Read, space: &mut [u8]) -> usize
+    ensures { result ≤ length space.new }
+{
+    let mut done = 0;
+    for _ in 0..space.len() {
+        match input.read(&mut space[done..]) {
+            Ok(0) | Err(_) => break,
+            Ok(n) => done += n,
+        }
+    }
+    done
+}
+
 /// The sheet of the image on standard input. One of over 65,536 bytes is declined by its length; where the input fails, that is said on
 /// standard error, and nothing is listed.
-pub fn run(rt: &(impl Input + Print + Eprint + AllocGlobal)) {
-    let mut image = Vec::new(rt.alloc());
-    let _ = match rt.reader().take(LONGEST as u64 + 1).read_to_end(&mut image) {
-        Ok(n) if n <= LONGEST => write_sheet(rt, &image[..n]),
-        Ok(_) => put_refused(rt, Decline::ImageLength),
-        Err(_) => rt.eprintln("the input cannot be read"),
+pub fn run(rt: &(impl Input + Print + Eprint)) {
+    let mut input = rt.reader();
+    let mut image = [0u8; LONGEST];
+    let n = read_full(&mut input, &mut image);
+    // The count does not say whether the input has ended or a read failed. One more read does.
+    let _ = match input.read(&mut [0u8; 1]) {
+        Ok(0) => write_sheet(rt, &image[..n]),
+        Ok(_) if n == LONGEST => put_refused(rt, Decline::ImageLength),
+        _ => rt.eprintln("the input cannot be read"),
     };
 }

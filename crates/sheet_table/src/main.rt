@@ -1,19 +1,24 @@
 // The sheets of named images (tools/examples.py): for each request of the input a line with its name, and the image's whole sheet.
 #![tactic(auto)]
 
-use requests::Requests;
-use std::io;
+use requests::{Request, line};
 
-fn run(rt: &(impl Input + Print + AllocGlobal)) -> io::Result<()> {
-    for request in Requests::new(rt.alloc(), rt.reader()) {
-        let request = request?;
-        rt.println(&request.name)?;
-        sheet_out::put_sheet(rt, &request.image);
-    }
-    Ok(())
+// The requests: more than there are.
+const MOST: usize = 1000;
+
+// A request's lines; of its form nothing is asked.
+fn answer(rt: &impl Print, request: &Request<u8>) {
+    line(rt, request.name, "");
+    sheet_out::put_sheet(rt, request.image);
 }
 
-// An output that fails is passed over.
 fn main(rt: HostRuntime) {
-    let _ = run(&rt);
+    let mut input = rt.reader();
+    let mut space = [0u8; requests::SPACE];
+    for _ in 0..MOST {
+        let Some(request) = requests::read(&mut input, &mut space) else {
+            return;
+        };
+        answer(&rt, &request);
+    }
 }

@@ -17,6 +17,7 @@ ghost use Rattle.slots_out.specs.CodeSlots.{ShortLines, LongLine, GroupLaid};
 use groups::lowered_at;
 use image_out::{LeafSlots, add_slot, put_padded};
 use key::{ikey_of, part_of};
+use node::leaf::KSUF_KEYLENX;
 use reading::station_at;
 
 // The place behind a part of a leaf, and the slots with its own.
@@ -26,7 +27,8 @@ pub struct Slotted {
     pub slots: LeafSlots,
 }
 
-// The slots with those of n station lines whose keys end in the layer.
+// The slots with those of n station lines whose keys end in the layer. (Sheet, line and depth go one by one: the lines are any short ones, and
+// a `FirstGroup` would ask more.)
 pub fn add_shorts(sheet: &[u8], line: usize, n: usize, depth: usize, slots: LeafSlots) -> LeafSlots
     requires short_lines { ShortLines sheet.now depth line n }
     requires n_bound { n ≤ 15 }
@@ -43,30 +45,36 @@ pub fn add_shorts(sheet: &[u8], line: usize, n: usize, depth: usize, slots: Leaf
     s
 }
 
-// The suffix of a station line whose key goes on below the layer, from `at` on, and the slots with its own.
+// The suffix of a station line whose key goes on below the layer, behind the parts of a leaf so far, and the slots with its own.
 pub fn add_suffix(
     out: &mut [u8],
-    at: usize,
+    before: Slotted,
     sheet: &[u8],
     line: usize,
     depth: usize,
-    slots: LeafSlots,
 ) -> Slotted
     requires long_line { LongLine sheet.now depth line }
-    requires holds_slots { HoldsSlots 14 slots }
-    requires line_in_bounds { (sub : List Pair → Node) → end_s at (long_slots sub (lines_at sheet.now depth line 1)) ≤ length out.old }
+    requires holds_slots { HoldsSlots 14 before.slots }
+    requires line_in_bounds { (sub : List Pair → Node) → end_s before.at (long_slots sub (lines_at sheet.now depth line 1)) ≤ length out.old }
     requires out_len_bound { length out.old ≤ 16777216 }
-    ensures { (fs : List Fields) (sub : List Pair → Node) → slots ≡ slots_of fs
-        → GroupLaid out.new result (laid (record { out = out.old; at = at; fields = fs }) (long_slots sub (lines_at sheet.now depth line 1))) }
+    ensures { (fs : List Fields) (sub : List Pair → Node) → before.slots ≡ slots_of fs
+        → GroupLaid out.new result (laid (record { out = out.old; at = before.at; fields = fs }) (long_slots sub (lines_at sheet.now depth line 1))) }
 {
     let mut buf = [0u8; 256];
     let read = station_at(sheet, line, &mut buf).unwrap();
     let key = part_of(&buf, 8 * depth, read.key_len - 8 * depth);
     let suffix = &key[8..];
-    let behind = put_padded(out, at, suffix);
-    let word = at as u64 + suffix.len() as u64 * 4294967296;
+    let behind = put_padded(out, before.at, suffix);
+    let word = before.at as u64 + suffix.len() as u64 * 4294967296;
     Slotted {
         at: behind,
-        slots: add_slot(slots, ikey_of(key), 64, read.value, word, true),
+        slots: add_slot(
+            before.slots,
+            ikey_of(key),
+            KSUF_KEYLENX,
+            read.value,
+            word,
+            true,
+        ),
     }
 }

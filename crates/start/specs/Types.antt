@@ -6,7 +6,6 @@ pub use Rattle.cursor.specs.declared.range_bound.StartMode.{StartMode}
 pub use Rattle.cursor.specs.declared.range_bound.StartMode.TheVariants.{From, Above}
 pub use Rattle.std.specs.declared.cmp.Ordering.{Ordering}
 pub use Rattle.std.specs.declared.cmp.Ordering.TheVariants.{Less, Equal, Greater}
-pub use Rattle.node.specs.declared.leaf.Suffix.{Suffix}
 pub use Rattle.node.specs.declared.permuter.Position.{Position}
 pub use Rattle.node.specs.declared.permuter.Slot.{Slot}
 pub use Rattle.start.specs.declared.Started.{Started}

@@ -2,16 +2,15 @@
 // Rust's `find_initial`, without its match on the ikey alone.)
 #![tactic(auto)]
 
-ghost use Rattle.std.specs.Prelude.{◌≡◌, ◌+◌, ◌≤◌};
-ghost use Rattle.node.specs.Layout.{InLeaf, InSlot};
+ghost use Rattle.std.specs.Prelude.{◌≡◌};
+ghost use Rattle.node.specs.Layout.{ikey_at, keylenx_at};
 ghost use Rattle.start.specs.Start.{at_equal, short_verdict, suffix_verdict, long_verdict, verdict, start_position};
 
 use base::Decline;
-use cursor::cursor_key::CursorPlace;
+use cursor::cursor_key::CursorReader;
 use cursor::range_bound::StartMode;
-use node::leaf::LeafReader;
-use node::permuter::{Position, Slot};
-use node::{leaf, permuter};
+use node::leaf::{LeafReader, SlotKind, SlotReader};
+use node::permuter::{self, Position, Slot};
 use search::helper;
 use std::cmp::Ordering;
 
@@ -31,6 +30,7 @@ pub enum Started {
 }
 
 // A key equal to the cursor: mode above stands past it.
+#[tactic(auto, unfolding(crate::specs::Start::at_equal))]
 fn at_equal(mode: StartMode) -> Verdict
     ensures { result ≡ at_equal mode }
 {
@@ -40,12 +40,14 @@ fn at_equal(mode: StartMode) -> Verdict
     }
 }
 
-// With at most eight cursor bytes left in the layer: by ikey, then keylenx.
-fn short_verdict(mode: StartMode, k: CursorPlace, ikey: u64, keylenx: usize) -> Verdict
-    requires { k.offset + k.len ≤ 256 }
-    ensures { result ≡ short_verdict mode k ikey keylenx }
+// With at most eight cursor bytes left in the layer: by ikey, then keylenx, a number here: it is ordered against the cursor's length.
+#[tactic(auto, unfolding(crate::specs::Start::short_verdict, search::specs::Helper::by_order, key::specs::Order::order, key::specs::Order::then, base::specs::Pick::pick), using(std::proofs::lemmas::Bool::Decides::nat_tests))]
+fn short_verdict(mode: StartMode, s: SlotReader, c: CursorReader) -> Verdict
+    ensures { result ≡ short_verdict mode c.entry.place (ikey_at s.entry.leaf.image.now s.entry.leaf.at s.entry.slot) (keylenx_at s.entry.leaf.image.now s.entry.leaf.at s.entry.slot) }
 {
-    match ikey.cmp(&k.ikey).then(keylenx.cmp(&k.len)) {
+    let k = c.place;
+    let keylenx = usize::from(s.keylenx());
+    match s.ikey().cmp(&k.ikey).then(keylenx.cmp(&k.len)) {
         Ordering::Less => Verdict::Pass,
         Ordering::Equal => {
             if 8 < k.offset + k.len {
@@ -58,25 +60,14 @@ fn short_verdict(mode: StartMode, k: CursorPlace, ikey: u64, keylenx: usize) -> 
 }
 
 // A suffix against the cursor's rest.
-fn suffix_verdict(
-    mode: StartMode,
-    leaf: LeafReader,
-    k: CursorPlace,
-    buf: &[u8; 256],
-    slot: Slot,
-) -> Result<Verdict, Decline>
-    requires in_slot { InSlot leaf.image.now leaf.at slot }
-    requires len_bound { k.offset + k.len ≤ 256 }
-    ensures { result ≡ suffix_verdict mode leaf.entry.image.now leaf.entry.at k buf.now slot }
+#[tactic(auto, unfolding(crate::specs::Start::suffix_verdict, search::specs::Helper::by_order, base::specs::Pick::pick), using(std::proofs::lemmas::Bool::Decides::nat_tests))]
+fn suffix_verdict(mode: StartMode, s: SlotReader, c: CursorReader) -> Result<Verdict, Decline>
+    ensures { result ≡ suffix_verdict mode s.entry.leaf.image.now s.entry.leaf.at c.entry.place c.entry.buf.now s.entry.slot }
 {
-    if !helper::is_suffix_readable(leaf, slot) {
+    if !helper::is_suffix_readable(s) || 256 < c.place.offset + 8 + s.ksuf().len {
         return Err(Decline::Unreadable);
     }
-    let suffix = leaf.ksuf(slot);
-    if 256 < k.offset + 8 + suffix.len {
-        return Err(Decline::Unreadable);
-    }
-    match key::compare(helper::stored_suffix(leaf, slot), k.suffix(buf)) {
+    match key::compare(helper::stored_suffix(s), c.suffix()) {
         Ordering::Less => Ok(Verdict::Pass),
         Ordering::Equal => Ok(at_equal(mode)),
         Ordering::Greater => Ok(Verdict::Stand),
@@ -84,73 +75,49 @@ fn suffix_verdict(
 }
 
 // With more left: by ikey, and of one ikey by what the slot goes on in.
-fn long_verdict(
-    mode: StartMode,
-    leaf: LeafReader,
-    k: CursorPlace,
-    buf: &[u8; 256],
-    slot: Slot,
-) -> Result<Verdict, Decline>
-    requires in_slot { InSlot leaf.image.now leaf.at slot }
-    requires len_bound { k.offset + k.len ≤ 256 }
-    ensures { result ≡ long_verdict mode leaf.entry.image.now leaf.entry.at k buf.now slot }
+#[tactic(auto, unfolding(crate::specs::Start::long_verdict, search::specs::Helper::by_order, key::specs::Order::order, node::specs::Layout::slot_kind, base::specs::Pick::pick), using(std::proofs::lemmas::Bool::Decides::nat_tests))]
+fn long_verdict(mode: StartMode, s: SlotReader, c: CursorReader) -> Result<Verdict, Decline>
+    ensures { result ≡ long_verdict mode s.entry.leaf.image.now s.entry.leaf.at c.entry.place c.entry.buf.now s.entry.slot }
 {
-    let ikey = leaf.ikey(slot);
-    if ikey < k.ikey {
+    let ikey = s.ikey();
+    if ikey < c.place.ikey {
         return Ok(Verdict::Pass);
     }
-    if k.ikey < ikey {
+    if c.place.ikey < ikey {
         return Ok(Verdict::Stand);
     }
-    let keylenx = leaf.keylenx(slot);
-    if keylenx <= 8 {
-        return Ok(Verdict::Pass); // it ends here, below the cursor
+    match s.kind() {
+        SlotKind::Inline => Ok(Verdict::Pass), // it ends here, below the cursor
+        SlotKind::Layer => Ok(Verdict::Enter),
+        SlotKind::Suffix => suffix_verdict(mode, s, c),
+        SlotKind::Unlisted => Err(Decline::Unreadable),
     }
-    if leaf::LAYER_KEYLENX <= keylenx {
-        return Ok(Verdict::Enter);
-    }
-    if keylenx == leaf::KSUF_KEYLENX {
-        return suffix_verdict(mode, leaf, k, buf, slot);
-    }
-    Err(Decline::Unreadable)
 }
 
-// What Start makes of a slot.
-fn judge(
-    mode: StartMode,
-    leaf: LeafReader,
-    k: CursorPlace,
-    buf: &[u8; 256],
-    slot: Slot,
-) -> Result<Verdict, Decline>
-    requires in_slot { InSlot leaf.image.now leaf.at slot }
-    requires len_bound { k.offset + k.len ≤ 256 }
-    ensures { result ≡ verdict mode leaf.entry.image.now leaf.entry.at k buf.now slot }
+// What Start makes of a slot. (Mode, slot and cursor go one by one here and above: no fact ties them.)
+#[tactic(auto, unfolding(crate::specs::Start::verdict, base::specs::Pick::pick))]
+fn judge(mode: StartMode, s: SlotReader, c: CursorReader) -> Result<Verdict, Decline>
+    ensures { result ≡ verdict mode s.entry.leaf.image.now s.entry.leaf.at c.entry.place c.entry.buf.now s.entry.slot }
 {
-    if k.has_suffix() {
-        return long_verdict(mode, leaf, k, buf, slot);
+    if c.place.has_suffix() {
+        return long_verdict(mode, s, c);
     }
-    let ikey = leaf.ikey(slot);
-    let keylenx = leaf.keylenx(slot);
-    Ok(short_verdict(mode, k, ikey, usize::from(keylenx)))
+    Ok(short_verdict(mode, s, c))
 }
 
-// Start: the first slot that is not passed over, else past the last.
+// Start: the first slot that is not passed over, else past the last. Positions are counted, as in search.
 pub fn start_position(
     mode: StartMode,
     leaf: LeafReader,
-    k: CursorPlace,
-    buf: &[u8; 256],
+    c: CursorReader,
 ) -> Result<Started, Decline>
-    requires in_leaf { InLeaf leaf.image.now leaf.at }
-    requires len_bound { k.offset + k.len ≤ 256 }
-    ensures { result ≡ start_position mode leaf.entry.image.now leaf.entry.at k buf.now }
+    ensures { result ≡ start_position mode leaf.entry.image.now leaf.entry.at c.entry.place c.entry.buf.now }
 {
     let permutation = leaf.permutation();
     let size = permuter::size(permutation);
     for i in 0..size {
         let slot = helper::slot_at(permutation, Position(i))?;
-        match judge(mode, leaf, k, buf, slot)? {
+        match judge(mode, SlotReader { leaf, slot }, c)? {
             Verdict::Pass => {}
             Verdict::Stand => {
                 return Ok(Started::At(Position(i)));

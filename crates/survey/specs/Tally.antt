@@ -2,7 +2,7 @@
 -- "it shall name mode above and give the same answers as before"; before, it used the short form: Tally01.antt).
 use Rattle.std.specs.Prelude.{Result, Ok, Err}
 use Rattle.base.specs.Kit.{List, ℕ, length}
-use Rattle.base.specs.Decline.{number_of, and_then}
+use Rattle.base.specs.Decline.{decline_number, and_then}
 use Rattle.base.specs.declared.Decline.{Decline}
 use Rattle.layering.specs.Sieve.{row_of}
 use Rattle.verify.specs.Check.{check}
@@ -13,7 +13,7 @@ use Rattle.cursor.specs.declared.range_bound.StartMode.TheVariants.{Above}
 -- elsewhere".
 unfoldable pub tally_number : Result ℕ Decline → ℕ
 tally_number (Ok n) = 0
-tally_number (Err d) = number_of d
+tally_number (Err d) = decline_number d
 
 unfoldable pub tally_count : Result ℕ Decline → ℕ
 tally_count (Ok n) = n

@@ -10,11 +10,11 @@ use Rattle.node.specs.Layout.{version_at, permutation_at, live_at, next_at, nkey
 use Rattle.node.proofs.PermuterLaws.{size_fits}
 use Rattle.verify.specs.Types.{Decline, RecordPlace, LeafChain, Suffix, Progress, RecordKind, Leaf, Internode, SlotCheck, Layer, Passed}
 use Rattle.verify.specs.Check.{Checked, each, demand, pass_leaf, pass_internode, enter_layer, leave_layer, separators_from, slot_c, node_c}
-use Rattle.verify.specs.CodeCases.{after_record, after_slot, sub_c, leaf_check, internode_check, record_check, LeafTold, suffix_check, kind_check, slot_check, record_end, leaf_end, layer_end, Bounded, Sized}
+use Rattle.verify.specs.CodeCases.{after_record, after_slot, sub_c, leaf_check, internode_check, record_check, LeafTold, suffix_check, kind_check, slot_check, record_end, leaf_end, leaf_parts, layer_end, Bounded, Sized}
 use Rattle.verify.proofs.Going.{says-leb, says-eqb, says-and, says_self}
 use Rattle.verify.proofs.Fields.{layer-kind}
 use Rattle.verify.proofs.Records.{says-reachable}
-use Rattle.verify.proofs.Steps.{leaf_parts, child_c, inner_parts, node-is, slot_is, layer-is}
+use Rattle.verify.proofs.Steps.{child_c, inner_parts, node-is, slot_is, layer-is}
 
 -- ANSWERS. What is known of a record that is an internode (of a leaf: `LeafTold`), and of any.
 pub record InternodeTold (image : List ℕ) (path at lo hi : ℕ) : Type 0 where

@@ -1,6 +1,6 @@
 -- What the two functions of the cycle and `check_image` cite: what a turn of each loop comes to, and what it leaves of
 -- `Bounded`. `below` is the number of layers that may lie below the one that is checked, `hi` the end of its ikeys.
-use Rattle.std.specs.Prelude.{◌≡◌, ◌+◌, ◌*◌, ◌-◌, ◌^◌, ◌<◌, ◌≤◌, Result, Ok, Err}
+use Rattle.std.specs.Prelude.{◌≡◌, ◌+◌, ◌-◌, ◌^◌, ◌<◌, ◌≤◌, Result, Ok, Err}
 use Rattle.base.specs.Kit.{not, List, ⊎_elim, refl, sym, subst, ◌∙◌, ℕ, zero, suc, eq-or-lt_of_le, arith, length, not-false}
 use Rattle.node.specs.Permuter.{size_of}
 use Rattle.base.specs.Decline.{and_then}
@@ -8,13 +8,12 @@ use Rattle.base.proofs.Choice.{pick_ind}
 use Rattle.node.specs.Layout.{permutation_at, nkeys_at, separator_at, child_at, root_offset}
 use Rattle.node.specs.Heading.{length_ok, heading}
 use Rattle.node.proofs.HeadingLaws.{length-fits}
-use Rattle.node.proofs.PermuterLaws.{size_fits}
 use Rattle.verify.specs.Types.{Decline, LeafChain, Counts, Progress, RecordKind, Leaf, Internode, SlotCheck, Layer, Passed}
 use Rattle.verify.specs.Check.{Checked, each, enter_layer, leave_layer, low_end, high_end, slot_c, node_c, finish, begin, check}
-use Rattle.verify.specs.CodeCases.{after_record, after_slot, sub_c, record_check, LeafTold, slot_check, record_end, leaf_end, layer_end, Opened, Bounded, Sized}
+use Rattle.verify.specs.CodeCases.{after_record, after_slot, sub_c, record_check, LeafTold, slot_check, record_end, leaf_end, leaf_parts, layer_end, Opened, Bounded, Sized}
 use Rattle.verify.proofs.Records.{Separators, says-separators}
 use Rattle.verify.proofs.Steps.{child_c, node-is, slot_is, layer-is, sub_is}
-use Rattle.verify.proofs.Bounds.{InternodeTold, RecordTold, record_told, Kept, weaker, demand-kept, each_adds, SlotTold, slot_told, slot_adds, node_adds, sub_adds}
+use Rattle.verify.proofs.Bounds.{InternodeTold, RecordTold, record_told, Kept, weaker, demand-kept, SlotTold, slot_told, slot_adds, node_adds, sub_adds}
 
 -- a position below the number of used slots, as the code has read it
 pub used : (image : List ℕ) (at m n i : ℕ) → m ≡ permutation_at image at → n ≡ size_of m → i < n → i < size_of (permutation_at image at)
@@ -72,7 +71,7 @@ module _ (image : List ℕ) (below at lo hi i : ℕ) (p : Progress) where
 
 -- a leaf that is checked up to its slots, with its permutation as it was read
 pub opened : (image : List ℕ) (at m : ℕ) → LeafTold image at → m ≡ permutation_at image at → Opened image at m
-opened image at m told e = record { inside = omega (arith, told.before); is = e; permuted = rw e told.permuted }
+opened image at m told e = record { is = e; permuted = rw e told.permuted }
 
 -- into a layer: its slot is one more that is ahead
 pub entered : (a : ℕ) (p q : Progress) → q ≡ enter_layer p → Bounded a p → Bounded (a + 1) q
@@ -84,14 +83,11 @@ module _ (image : List ℕ) (path at lo hi : ℕ) (p : Progress) where
     abbrev node : Checked
     node = node_c (sub_c image below) image (31 - below) path at lo hi p
 
-    abbrev slots : Checked
-    slots = each (slot_c (sub_c image below) image (31 - below) at lo hi) 0 (size_of (permutation_at image at)) p
-
     abbrev children : Checked
     children = each (child_c (sub_c image below) image (31 - below) at lo hi (path - 1)) 0 (nkeys_at image at + 1) p
 
     record-after : (x : Result RecordKind Decline) → x ≡ record_check image path at lo hi p
-        → after_record x (and_then slots (leaf_end image at)) (and_then children (record_end at 256)) ≡ node
+        → after_record x (leaf_parts (sub_c image below) image (31 - below) at lo hi p) (and_then children (record_end at 256)) ≡ node
     record-after x e = rw e (sym (node-is (sub_c image below) image (31 - below) at lo hi path p))
 
     pub node_stopped : (d : Decline) → Err d ≡ record_check image path at lo hi p → Err d ≡ node
@@ -102,39 +98,21 @@ module _ (image : List ℕ) (path at lo hi : ℕ) (p : Progress) where
     record_tells : RecordTold image path at lo hi (Ok r)
     record_tells = subst (RecordTold image path at lo hi) (sym e) (record_told image path at lo hi p)
 
-    -- a leaf, whose slots came to x
+    -- a leaf, whose parts came to z
     module _ (f : r ≡ Leaf) where
       pub leaf_told : LeafTold image at
       unfolding RecordTold
       leaf_told = rw f at record_tells
 
-      pub leaf-inside : at + 400 ≤ length image
-      leaf-inside = omega (arith, leaf_told.before)
-
-      module _ (below : ℕ) (x : Checked) (g : x ≡ slots below) where
-        leaf-after : and_then x (leaf_end image at) ≡ node below
-        unfolding after_record
-        leaf-after = rw g (rw f at (record-after below (Ok r) e))
-
-        pub leaf_stopped : (d : Decline) → x ≡ Err d → Err d ≡ node below
-        unfolding and_then
-        leaf_stopped d k = rw k at leaf-after
-
-        pub node-leaf : (q : Progress) → x ≡ Ok q → (z : Checked) → z ≡ leaf_end image at q → z ≡ node below
-        unfolding and_then
-        node-leaf q k z h = h ∙ (rw k at leaf-after)
+      pub node-leaf : (below : ℕ) (z : Checked) → z ≡ leaf_parts (sub_c image below) image (31 - below) at lo hi p → z ≡ node below
+      unfolding after_record
+      node-leaf below z g = g ∙ (rw f at (record-after below (Ok r) e))
 
     -- an internode, whose children came to x
     module _ (f : r ≡ Internode) where
       pub inner_told : InternodeTold image path at lo hi
       unfolding RecordTold
       inner_told = rw f at record_tells
-
-      pub inner-inside : at + 256 ≤ length image
-      inner-inside = omega (arith, inner_told.before)
-
-      pub child-few : (n i : ℕ) → n ≡ nkeys_at image at + 1 → i < n → i < 16
-      child-few n i g h = omega (arith, inner_told.few)
 
       module _ (below : ℕ) where
         inner-after : (x : Checked) → x ≡ children below → and_then x (record_end at 256) ≡ node below
@@ -149,15 +127,11 @@ module _ (image : List ℕ) (path at lo hi : ℕ) (p : Progress) where
         unfolding and_then
         node_inner q g z h = h ∙ inner-after (Ok q) g
 
--- behind a leaf's slots
-pub slots_kept : (image : List ℕ) → Sized image → (below at lo hi : ℕ) → LeafTold image at → (p : Progress) → Bounded (15 * (31 - below)) p
-    → (q : Progress) → Ok q ≡ each (slot_c (sub_c image below) image (31 - below) at lo hi) 0 (size_of (permutation_at image at)) p → Bounded 480 q
-slots_kept image sized below at lo hi told p b q e =
-    let a = 15 * (31 - below) in
-    let size = size_of (permutation_at image at) in
-    weaker (a + size * 1) 480 q (omega (arith, size_fits (permutation_at image at)))
-    (subst (Kept (a + size * 1)) (sym e)
-    (each_adds 1 _ (slot_adds image sized (31 - below) at told.before lo hi (sub_c image below) (sub_adds image sized below)) size 0 a p b))
+-- behind a leaf's slots its end
+pub leaf-ended : (image : List ℕ) (at : ℕ) (x : Checked) (q : Progress) → Ok q ≡ x → (z : Checked) → z ≡ leaf_end image at q
+    → z ≡ and_then x (leaf_end image at)
+unfolding and_then
+leaf-ended image at x q e z h = rw (← e) h
 
 -- CHILDREN. The code's answer x for a subtree, with `path` internodes left.
 module _ (image : List ℕ) (below path child low high : ℕ) (p : Progress) where

@@ -1,5 +1,5 @@
 -- The check of a leaf ends without a fault exactly where the rules hold of it: its own tests around the check of its slots.
-use Rattle.std.specs.Prelude.{◌≡◌, ◌+◌, ◌≤◌, Err}
+use Rattle.std.specs.Prelude.{◌≡◌, ◌+◌, ◌≤◌, Err, IfSome}
 use Rattle.base.specs.Kit.{true, not, List, refl, ℕ, arith, eqb, length}
 use Rattle.base.specs.Pick.{pick}
 use Rattle.node.specs.Version.{at_rest}
@@ -40,7 +40,7 @@ module _ (image : List ℕ) (sub : ℕ → Progress → Checked) (tree : ℕ →
   -- The leaf's tests, in their order.
   abbrev Parts : Progress → Type 0
   Parts p =
-      Reachable image 400 at p × ((at_rest (version_at image at) ≡ true) × ((p.chained ≡ true → p.next ≡ at)
+      Reachable image 400 at p × ((at_rest (version_at image at) ≡ true) × (IfSome p.next (λ n. n ≡ at)
       × (IsPermutation (permutation_at image at) × (SlotsOk image depth at lo hi 0 size p slots × (at ≡ end_s p.place slots)))))
 
   pub leaf-run : (p : Progress) → Underway image p

@@ -1,54 +1,19 @@
--- Laws of a record's tests, which the proofs of its functions cite: by the version that the code has read; where a record may lie at the
--- latest; the ends of an internode's children; and the tests that go by a loop, one turn at a time.
-use Rattle.std.specs.Prelude.{◌≡◌, ◌&&◌, ◌⊎◌, ◌+◌, ◌-◌, ◌<◌, ◌≤◌, Result, Ok, Err}
-use Rattle.base.specs.Kit.{⊎_elim, refl, sym, ◌∙◌, ap, Bool, true, false, not, and-true, and-false, and_assoc, Bool·not-not, List, ℕ, zero, suc, leb, eqb, sub-one, add-one, arith, length, get_or, set, replicate, length-set, length-replicate, get_or-replicate, lt-ltb, le-ltb, eqb-true, eqb-false, add-zero, zero-add, get_or-set_same, get_or-set_other}
+-- Laws of a record's tests, which the proofs of its functions cite: the high end of an internode's children; and the tests that go by a
+-- loop, one turn at a time.
+use Rattle.std.specs.Prelude.{◌≡◌, ◌&&◌, ◌⊎◌, ◌+◌, ◌-◌, ◌<◌, ◌≤◌}
+use Rattle.base.specs.Kit.{⊎_elim, refl, sym, ◌∙◌, ap, Bool, true, false, not, and-true, and-false, and_assoc, Bool·not-not, List, ℕ, zero, suc, eqb, add-one, arith, length, get_or, set, replicate, length-set, length-replicate, get_or-replicate, lt-ltb, le-ltb, eqb-true, eqb-false, add-zero, zero-add, get_or-set_same, get_or-set_other}
 use Rattle.base.specs.Pick.{pick}
-use Rattle.node.specs.Version.{at_rest}
-use Rattle.node.specs.Layout.{version_at, permutation_at, nkeys_at, separator_at}
-use Rattle.verify.specs.Types.{Decline, RecordPlace, RecordVersion, LeafPermutation, SlotOrder, LeafChain, Progress, RecordKind, Leaf, Internode, Slot}
-use Rattle.verify.specs.Check.{reachable, expected, permutes, separators_from, low_end, high_end, fresh_from, permutes_from}
-use Rattle.verify.specs.CodeCases.{leaf_check, internode_check}
-use Rattle.verify.proofs.Going.{says-leb, says_as, same_test}
+use Rattle.node.specs.Layout.{nkeys_at, separator_at}
+use Rattle.verify.specs.Types.{Progress, Slot}
+use Rattle.verify.specs.Check.{reachable, separators_from, high_end, fresh_from, permutes_from}
 use Rattle.verify.proofs.Records.{says-reachable}
 use Rattle.base.proofs.Count.{left-more}
 use Rattle.node.specs.Permuter.{slot_at}
 
--- two tests with one answer, one after the other
-in_turn : {A : Type 0} (a b : Bool) (x y : A) → pick (not (a && b)) x y ≡ pick (not a) x (pick b y x)
-unfolding pick
-in_turn true true x y = refl
-in_turn true false x y = refl
-in_turn false b x y = refl
-
-module _ (image : List ℕ) (at version : ℕ) (v : version ≡ version_at image at) (z : Result RecordKind Decline) where
-  pub leaf_read : (p : Progress)
-      → z ≡ pick (not (reachable image 400 at p)) (Err RecordPlace) (pick (not (at_rest version)) (Err RecordVersion)
-      (pick (not (expected at p)) (Err LeafChain) (pick (not (permutes (permutation_at image at))) (Err LeafPermutation) (Ok Leaf))))
-      → z ≡ leaf_check image at p
-  unfolding leaf_check
-  leaf_read p h = rw (← v) h
-
-  pub internode_read : (path lo hi : ℕ)
-      → z ≡ pick (not (at_rest version)) (Err RecordVersion) (pick (leb (nkeys_at image at) 15)
-      (pick (eqb path 0) (Err RecordVersion) (pick (not (separators_from image at lo hi 0 (nkeys_at image at))) (Err SlotOrder) (Ok Internode))) (Err RecordVersion))
-      → z ≡ internode_check image path at lo hi
-  unfolding internode_check
-  internode_read path lo hi h = rw (← v, in_turn) h
-
--- a sum on one side of a test is a difference on the other
-pub latest : (at size n : ℕ) → size + 32 ≤ n → leb at (n - 32 - size) ≡ leb (at + size + 32) n
-latest at size n h = same_test (says_as (λ q. omega arith) (λ q. omega arith) (says-leb at (n - 32 - size))) (says-leb (at + size + 32) n)
-
--- a record that passed number 3 lies before the trailer
+-- a record that number 3 lets through lies before the trailer
 pub before_trailer : (image : List ℕ) (size at : ℕ) (p : Progress) (r : Bool) → r ≡ reachable image size at p → r ≡ true
     → at + size + 32 ≤ length image
 before_trailer image size at p r e f = ((says-reachable image size at p).holds (sym e ∙ f)).before
-
--- the low end of a child that is not the first
-pub low_inner : (image : List ℕ) (at lo i : ℕ) → (i ≡ 0 → ⊥) → separator_at image at (i - 1) ≡ low_end image at lo i
-unfolding low_end
-low_inner image at lo zero h = absurd (h refl)
-low_inner image at lo (suc i) h = rw sub-one
 
 -- the high end of a child before a separator, and of the last
 module _ (image : List ℕ) (at hi i n : ℕ) (e : n ≡ nkeys_at image at) where

@@ -1,13 +1,12 @@
 -- What the check's tests of a record say: number 3 on reaching it, a leaf's permutation, an internode's separators.
-use Rattle.std.specs.Prelude.{◌≡◌, ◌+◌, ◌%◌, ◌≤◌, ◌<◌}
-use Rattle.base.specs.Kit.{true, true≢false, List, inl, inr, ⊎_elim, refl, sym, ◌∙◌, subst, ℕ, zero, suc, eq-or-lt_of_le, arith, length}
-use Rattle.base.proofs.Choice.{by_test}
+use Rattle.std.specs.Prelude.{◌≡◌, ◌+◌, ◌%◌, ◌≤◌, ◌<◌, Option, Some, None, IfSome}
+use Rattle.base.specs.Kit.{List, ⊎_elim, refl, subst, ℕ, zero, suc, eq-or-lt_of_le, arith, length}
 use Rattle.node.specs.Permuter.{slot_at}
 use Rattle.node.specs.Layout.{separator_at}
 use Rattle.layering.specs.Accepted.{IsPermutation}
 use Rattle.verify.specs.Types.{Progress}
-use Rattle.verify.specs.Check.{reachable, expected, fresh_from, permutes_from, permutes, separators_from}
-use Rattle.verify.proofs.Going.{Says, says-leb, says-ltb, says-eqb, says-and, says-or, says-not, says_self, says_as}
+use Rattle.verify.specs.Check.{reachable, is_next, expected, fresh_from, permutes_from, permutes, separators_from}
+use Rattle.verify.proofs.Going.{Says, says-leb, says-ltb, says-eqb, says-and, says-not, says_as}
 
 -- NUMBER 3
 pub record Reachable (image : List ℕ) (size at : ℕ) (p : Progress) : Type 0 where
@@ -22,12 +21,14 @@ says-reachable image size at p =
     (says-and (says-eqb (at % 8) 0) (says-and (says-leb p.place at) (says-leb (at + size + 32) (length image))))
 
 -- NUMBER 9
-pub says-expected : (at : ℕ) (p : Progress) → Says (expected at p) (p.chained ≡ true → p.next ≡ at)
+pub says-next : (at : ℕ) (next : Option ℕ) → Says (is_next at next) (IfSome next (λ n. n ≡ at))
+unfolding is_next
+says-next at None = record { holds = λ e. tt; passes = λ h. refl }
+says-next at (Some n) = says-eqb n at
+
+pub says-expected : (at : ℕ) (p : Progress) → Says (expected at p) (IfSome p.next (λ n. n ≡ at))
 unfolding expected
-says-expected at p =
-    says_as (λ h e. ⊎_elim (λ n. absurd (n e)) (λ q. q) h)
-    (λ h. by_test p.chained (λ e. inr (h e)) (λ e. inl (λ q. true≢false (sym q ∙ e))))
-    (says-or (says-not (says_self p.chained)) (says-eqb p.next at))
+says-expected at p = says-next at p.next
 
 -- from i on, and from the next on
 from_next : (P : ℕ → Type 0) (i n : ℕ) → P i → ((j : ℕ) → i + 1 ≤ j → j < i + 1 + n → P j) → (j : ℕ) → i ≤ j → j < i + suc n → P j

@@ -1,11 +1,11 @@
 -- The check of a leaf's slots ends without a fault exactly where the rules hold of them: by recursion on the slots left. The
 -- check of a layer below comes in as a function, with what is known of it.
-use Rattle.std.specs.Prelude.{◌&&◌, ◌≡◌, ◌+◌, ◌^◌, ◌≤◌, ◌<◌, Ok, Err}
-use Rattle.base.specs.Kit.{Bool, true, false, not, false≢true, List, refl, subst, ℕ, zero, suc, add-one, arith, leb, eqb, length, leb-true, leb-false, le-leb, lt-leb, eqb-true, eqb-false}
+use Rattle.std.specs.Prelude.{◌&&◌, ◌≡◌, ◌+◌, ◌^◌, ◌≤◌, ◌<◌, None, Ok, Err}
+use Rattle.base.specs.Kit.{Bool, true, false, not, List, refl, subst, ℕ, zero, suc, add-one, arith, leb, eqb, length, leb-true, leb-false, le-leb, lt-leb, eqb-true, eqb-false}
 use Rattle.base.specs.Pick.{pick}
 use Rattle.base.proofs.Choice.{pick_ind, by_test}
 use Rattle.layering.specs.Tree.{Fields, fields_at, Node, Slots, none, value, layer, slots_from}
-use Rattle.layering.specs.Accepted.{room, end_n, end_s, InPostOrderS, ShortPathsS, Before, BeforeFirst, AscendS, InRangeS, first_n, LinkedN, LinkedS, FieldsS}
+use Rattle.layering.specs.Accepted.{room, end_n, end_s, InPostOrderS, ShortPathsS, Before, BeforeFirst, AscendS, InRangeS, LinkedN, LinkedS, FieldsS}
 use Rattle.layering.proofs.Size.{leaves_fit_s}
 use Rattle.verify.specs.Types.{RecordPlace, SlotLength, SlotKey, SlotOrder, Progress}
 use Rattle.verify.specs.Check.{Checked, each, pass_value, enter_layer, leave_layer, listed, fits, in_order, in_range, suffix_c, layer_slot_c, slot_c}
@@ -22,7 +22,7 @@ pub record SoundLayer (image : List ℕ) (depth : ℕ) (p : Progress) (n : Node)
 -- A check of layers does what it should.
 abbrev pub Layers : List ℕ → ℕ → (ℕ → Progress → Checked) → (ℕ → Node) → Type 0
 Layers image depth sub tree =
-    (root : ℕ) (p : Progress) → Underway image p → p.chained ≡ false
+    (root : ℕ) (p : Progress) → Underway image p → p.next ≡ None
     → Runs (sub root p) (SoundLayer image depth p (tree root)) (after_n p (tree root))
 
 -- The rules for the slots of a leaf from position i on, n of them, the first behind the slot before it.
@@ -190,7 +190,6 @@ module _ (image : List ℕ) (sub : ℕ → Progress → Checked) (tree : ℕ →
             let links : LinkedN (last_n (below i)) (below i) = rw ends h.sound.links.0 in
             let before : end_n p.place (below i) + 32 ≤ length image =
             omega (arith, h.sound.before, leaves_fit_s others (end_n p.place (below i))) in
-            let fresh : false ≡ true → 0 ≡ first_n (below i) = λ e. absurd (false≢true e) in
             search
 
   pub slots-run : at + 432 ≤ length image → (n i : ℕ) (p : Progress) → Underway image p

@@ -1,12 +1,12 @@
 -- All the rules for a subtree in one record, between the ends and from the place where the check reaches it, and what the
 -- check has come to behind it. The rule on links is said of what the subtree's last leaf names (`last_n`).
-use Rattle.std.specs.Prelude.{◌≡◌, ◌+◌, ◌%◌, ◌≤◌}
-use Rattle.base.specs.Kit.{true, List, ℕ, arith, length}
+use Rattle.std.specs.Prelude.{◌≡◌, ◌+◌, ◌%◌, ◌≤◌, Some, IfSome}
+use Rattle.base.specs.Kit.{List, ℕ, arith, length}
 use Rattle.layering.specs.Tree.{Fields, LeafHead, Node, leaf, Kids, more, Slots, none, value, layer}
 use Rattle.layering.specs.Keys.{leaves_n, leaves_k, leaves_s, values_n, values_k, values_s, layers_n, layers_k, layers_s, lives_n, lives_k, lives_s}
 use Rattle.layering.specs.Accepted.{room, end_n, end_k, end_s, InPostOrderN, InPostOrderK, InPostOrderS, ShortPathsN, ShortPathsK, ShortPathsS, AscendN, AscendK, AscendS, InRangeN, InRangeK, InRangeS, first_n, first_k, LinkedN, LinkedK, LinkedS, FieldsN, FieldsK, FieldsS}
 use Rattle.verify.specs.Types.{Counts, Progress}
-use Rattle.verify.specs.Check.{Checked, with_place, with_chain, with_counts, pass_value, pass_leaf, enter_layer, leave_layer}
+use Rattle.verify.specs.Check.{Checked, with_place, with_next, with_counts, pass_value, pass_leaf, enter_layer, leave_layer}
 use Rattle.verify.proofs.Going.{Runs}
 use Rattle.verify.proofs.Places.{last_n, last_k, Within, aligned_n}
 
@@ -18,12 +18,12 @@ added c leaves values layers =
 unfoldable pub after_n : Progress → Node → Progress
 after_n p n =
     with_place (end_n p.place n)
-    (with_chain true (last_n n) (with_counts (added p.counts (leaves_n n) (values_n n) (layers_n n)) (p.live_slots + lives_n n) p))
+    (with_next (Some (last_n n)) (with_counts (added p.counts (leaves_n n) (values_n n) (layers_n n)) (p.live_slots + lives_n n) p))
 
 unfoldable pub after_k : Progress → Kids → Progress
 after_k p k =
     with_place (end_k p.place k)
-    (with_chain true (last_k k) (with_counts (added p.counts (leaves_k k) (values_k k) (layers_k k)) (p.live_slots + lives_k k) p))
+    (with_next (Some (last_k k)) (with_counts (added p.counts (leaves_k k) (values_k k) (layers_k k)) (p.live_slots + lives_k k) p))
 
 unfoldable pub after_s : Progress → Slots → Progress
 after_s p s =
@@ -84,7 +84,7 @@ SoundN image depth lo hi p n =
       paths : ShortPathsN n;
       ascend : AscendN n;
       range : InRangeN lo hi n;
-      first : p.chained ≡ true → p.next ≡ first_n n;
+      first : IfSome p.next (λ x. x ≡ first_n n);
       links : LinkedN (last_n n) n;
       fields : FieldsN depth n;
     }
@@ -97,7 +97,7 @@ SoundK image depth lo hi p k =
       paths : ShortPathsK k;
       ascend : AscendK k;
       range : InRangeK lo hi k;
-      first : p.chained ≡ true → p.next ≡ first_k k;
+      first : IfSome p.next (λ x. x ≡ first_k k);
       links : LinkedK (last_k k) k;
       fields : FieldsK depth k;
     }

@@ -6,12 +6,11 @@ use Rattle.base.specs.Decline.{and_then}
 use Rattle.base.specs.Pick.{pick}
 use Rattle.base.proofs.Choice.{pick-map, pick_inner}
 use Rattle.base.proofs.Count.{left-more}
-use Rattle.node.specs.Permuter.{size_of}
-use Rattle.node.specs.Layout.{permutation_at, nkeys_at, child_at}
+use Rattle.node.specs.Layout.{nkeys_at, child_at}
 use Rattle.layering.specs.Tree.{fields_at}
 use Rattle.layering.specs.Accepted.{room}
 use Rattle.verify.specs.Check.{Checked, each, demand, pass_value, pass_internode, listed, fits, in_range, suffix_c, layer_slot_c, slot_c, leaf_c, low_end, high_end, internode_c, record_c, node_c, layer_with, layer_c}
-use Rattle.verify.specs.CodeCases.{after_record, after_slot, sub_c, leaf_check, internode_check, record_check, suffix_check, kind_check, slot_check, record_end, leaf_end, layer_end}
+use Rattle.verify.specs.CodeCases.{after_record, after_slot, sub_c, leaf_check, internode_check, record_check, suffix_check, kind_check, slot_check, record_end, leaf_end, leaf_parts, layer_end}
 use Rattle.verify.specs.Types.{Decline, RecordPlace, RecordKind, SlotCheck, Progress}
 
 -- LOOPS. What is left from i on comes to w, as the whole does.
@@ -43,19 +42,16 @@ module _ (sub : ℕ → Progress → Checked) (image : List ℕ) (depth at lo hi
   abbrev pub child_c : ℕ → ℕ → Progress → Checked
   child_c q i = node_c sub image depth q (child_at image at i) (low_end image at lo i) (high_end image at hi i)
 
-  -- a leaf's slots, an internode's children, and the record's end
-  abbrev pub leaf_parts : Progress → Checked
-  leaf_parts p = and_then (each (slot_c sub image depth at lo hi) 0 (size_of (permutation_at image at)) p) (leaf_end image at)
-
+  -- an internode's children, and the record's end
   abbrev pub inner_parts : ℕ → Progress → Checked
   inner_parts q p = and_then (each (child_c q) 0 (nkeys_at image at + 1) p) (record_end at 256)
 
   pub node-is : (path : ℕ) (p : Progress)
-      → node_c sub image depth path at lo hi p ≡ after_record (record_check image path at lo hi p) (leaf_parts p) (inner_parts (path - 1) p)
+      → node_c sub image depth path at lo hi p ≡ after_record (record_check image path at lo hi p) (leaf_parts sub image depth at lo hi p) (inner_parts (path - 1) p)
   unfolding node_c record_c record_check leaf_check internode_check leaf_c internode_c after_record pass_internode leaf_end record_end
-  node-is zero p = simp (pick-map (λ (r : Result RecordKind Decline). after_record r (leaf_parts p) (inner_parts (0 - 1) p)), pick_true)
+  node-is zero p = simp (pick-map (λ (r : Result RecordKind Decline). after_record r (leaf_parts sub image depth at lo hi p) (inner_parts (0 - 1) p)), pick_true)
   node-is (suc n) p =
-      rw sub-one (simp (pick-map (λ (r : Result RecordKind Decline). after_record r (leaf_parts p) (inner_parts n p)), ne_eqb (suc n) 0 (λ e. omega arith), pick-false))
+      rw sub-one (simp (pick-map (λ (r : Result RecordKind Decline). after_record r (leaf_parts sub image depth at lo hi p) (inner_parts n p)), ne_eqb (suc n) 0 (λ e. omega arith), pick-false))
 
 -- SLOTS. A suffix's room is read where there is one.
 pub slot_is : (sub : ℕ → Progress → Checked) (image : List ℕ) (depth at lo hi i : ℕ) (p : Progress)

@@ -11,7 +11,7 @@ use Rattle.layering.specs.Keys.{leaves_n, leaves_k, values_n, values_k, layers_n
 use Rattle.layering.specs.Accepted.{end_n, end_k, InPostOrderN, InPostOrderK, ShortPathsN, ShortPathsK, AscendN, AscendK, InRangeN, InRangeK, first_n, first_k, LinkedN, LinkedK, FieldsN, FieldsK}
 use Rattle.layering.proofs.Size.{leaves_fit_k}
 use Rattle.verify.specs.Types.{RecordPlace, RecordVersion, SlotKey, SlotOrder, LeafChain, Progress}
-use Rattle.verify.specs.Check.{Checked, each, demand, pass_internode, low_end, high_end, internode_c, reachable, leaf_c, record_c, node_c, layer_with, layer_c}
+use Rattle.verify.specs.Check.{Checked, each, demand, is_next, pass_internode, low_end, high_end, internode_c, reachable, leaf_c, record_c, node_c, layer_with, layer_c}
 use Rattle.verify.proofs.Going.{says-leb, says-eqb, says-and, says_self, Runs, runs_as, runs_to, runs_here, runs_test, runs-demand, runs_then, runs_never}
 use Rattle.verify.proofs.Records.{Reachable, Separators, says-separators, says-reachable}
 use Rattle.verify.proofs.Places.{last_n, last_k, linked-last_n, aligned_k}
@@ -36,7 +36,7 @@ module _ (image : List ℕ) (depth lo x hi : ℕ) (p : Progress) (n : Node) (k :
   more_sound : (lo < x) × (x < hi) → SoundN image depth lo x p n × SoundK image depth x hi (after_n p n) k
       → SoundK image depth lo hi p (more n x k)
   unfolding after_n InPostOrderK end_k last_k first_k ShortPathsK AscendK InRangeK LinkedK FieldsK SoundN SoundK
-  more_sound b (here, others) = let links = subst (λ (y : ℕ). LinkedN y n) (others.first refl) here.links in search
+  more_sound b (here, others) = let links = subst (λ (y : ℕ). LinkedN y n) others.first here.links in search
 
   sound_more : SoundK image depth lo hi p (more n x k) → SoundN image depth lo x p n × SoundK image depth x hi (after_n p n) k
   unfolding after_n InPostOrderK end_k last_k first_k ShortPathsK AscendK InRangeK LinkedK FieldsK SoundN SoundK
@@ -174,10 +174,10 @@ module _ (image : List ℕ) (sub : ℕ → Progress → Checked) (tree : ℕ →
 
   -- A LAYER
   pub layer_with-run : Layers image depth (layer_with sub image depth) (node_at tree image 12)
-  unfolding layer_with after_n
+  unfolding layer_with after_n is_next
   layer_with-run root p r fresh =
       runs_as (λ h. record { sound = h.0; ends = h.1 }) (λ h. (h.sound, h.ends))
-      (runs_then (λ q. demand LeafChain (eqb q.next 0) q) (node-run 12 root 0 (2 ^ 64) p r)
+      (runs_then (λ q. demand LeafChain (is_next 0 q.next) q) (node-run 12 root 0 (2 ^ 64) p r)
       (λ h. runs-demand LeafChain (after_n p (node_at tree image 12 root)) (says-eqb (last_n (node_at tree image 12 root)) 0)))
 
 -- LAYERS with at most `below` more below them.

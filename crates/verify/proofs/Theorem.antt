@@ -1,7 +1,7 @@
 -- THE THEOREM: the check's number is 0 exactly where `Obeys` holds of the image, and then its three numbers are the tree's. The tests
 -- before and behind the tree are taken apart here; the tree itself is `layers-run`.
 use Rattle.std.specs.Prelude.{◌≡◌, ◌&&◌, ◌+◌, ◌-◌, ◌%◌, ◌≤◌, Result, Ok, Err}
-use Rattle.base.specs.Kit.{Bool, true, false, not, false≢true, List, refl, ap, sym, ◌∙◌, subst, ℕ, arith, eqb, length, eq-eqb, not-false}
+use Rattle.base.specs.Kit.{Bool, true, false, not, List, refl, ap, sym, ◌∙◌, subst, ℕ, arith, eqb, length, eq-eqb, not-false}
 use Rattle.base.specs.Decline.{and_then}
 use Rattle.base.specs.Pick.{pick}
 use Rattle.base.proofs.Choice.{pick_ind}
@@ -10,7 +10,7 @@ use Rattle.node.specs.Layout.{root_offset, key_count, stated_length, edition}
 use Rattle.node.specs.Heading.{length_ok, heading}
 use Rattle.layering.specs.Tree.{tree_of}
 use Rattle.layering.specs.Keys.{lives_n}
-use Rattle.layering.specs.Accepted.{end_n, first_n, LinkedN, Obeys}
+use Rattle.layering.specs.Accepted.{end_n, LinkedN, Obeys}
 use Rattle.verify.specs.Types.{Decline, Counts, Progress}
 use Rattle.verify.specs.Check.{Checked, check_number, check_counts, layer_c, begin, finish, check}
 use Rattle.verify.specs.Acceptance.{tree_counts}
@@ -121,7 +121,6 @@ module _ (image : List ℕ) where
       let ends : last_n (tree_of image) ≡ 0 = linked-last_n (tree_of image) 0 o.links in
       let links : LinkedN (last_n (tree_of image)) (tree_of image) = rw ends o.links in
       let before : end_n 8 (tree_of image) + 32 ≤ length image = omega (arith, o.to_trailer, o.long) in
-      let fresh : false ≡ true → 0 ≡ first_n (tree_of image) = λ e. absurd (false≢true e) in
       let q : whole ≡ Ok (after_n begin (tree_of image)) = (run o.long).comes (search) in
       rw (headed-heading image h, q)
       (finish-accepts image (after_n begin (tree_of image)) (omega (arith, o.to_trailer, o.long)) (o.count ∙ sym lively) ∙ ap (λ (c : Counts). Ok c) counted)

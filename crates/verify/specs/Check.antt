@@ -1,8 +1,8 @@
 -- The check's answer for every byte list (01, "Check an image"). The tree is gone through in post-order, "the first fault
 -- deciding"; each test stands where 01 has it.
-use Rattle.std.specs.Prelude.{◌&&◌, ◌||◌, ◌+◌, ◌*◌, ◌%◌, ◌-◌, ◌^◌, Result, Ok, Err}
-use Rattle.base.specs.Kit.{Bool, true, false, not, List, ℕ, zero, suc, leb, ltb, eqb, length}
-use Rattle.base.specs.Decline.{number_of, and_then}
+use Rattle.std.specs.Prelude.{◌&&◌, ◌||◌, ◌+◌, ◌*◌, ◌%◌, ◌-◌, ◌^◌, Option, Some, None, Result, Ok, Err}
+use Rattle.base.specs.Kit.{Bool, true, not, List, ℕ, zero, suc, leb, ltb, eqb, length}
+use Rattle.base.specs.Decline.{decline_number, and_then}
 use Rattle.base.specs.Pick.{pick}
 use Rattle.node.specs.Version.{is_leaf, at_rest}
 use Rattle.node.specs.Permuter.{size_of, slot_at}
@@ -16,7 +16,7 @@ use Rattle.verify.specs.Types.{Decline, RecordPlace, RecordVersion, LeafPermutat
 -- sub-layers"; "A declined call returns its number, zero elsewhere".
 unfoldable pub check_number : Result Counts Decline → ℕ
 check_number (Ok c) = 0
-check_number (Err d) = number_of d
+check_number (Err d) = decline_number d
 
 unfoldable pub check_counts : Result Counts Decline → Counts
 check_counts (Ok c) = c
@@ -29,16 +29,16 @@ Checked = Result Progress Decline
 -- PROGRESS where nothing is counted yet and no leaf was met; and with another place, another chain of leaves, other counts.
 abbrev pub uncounted : ℕ → Progress
 uncounted place =
-    record { place = place; chained = false; next = 0; counts = record { leaves = 0; value_slots = 0; sub_layers = 0 }; live_slots = 0 }
+    record { place = place; counts = record { leaves = 0; value_slots = 0; sub_layers = 0 }; live_slots = 0; next = None }
 
 abbrev pub with_place : ℕ → Progress → Progress
-with_place place p = record { place = place; chained = p.chained; next = p.next; counts = p.counts; live_slots = p.live_slots }
+with_place place p = record { place = place; counts = p.counts; live_slots = p.live_slots; next = p.next }
 
-abbrev pub with_chain : Bool → ℕ → Progress → Progress
-with_chain chained next p = record { place = p.place; chained = chained; next = next; counts = p.counts; live_slots = p.live_slots }
+abbrev pub with_next : Option ℕ → Progress → Progress
+with_next next p = record { place = p.place; counts = p.counts; live_slots = p.live_slots; next = next }
 
 abbrev pub with_counts : Counts → ℕ → Progress → Progress
-with_counts counts live p = record { place = p.place; chained = p.chained; next = p.next; counts = counts; live_slots = live }
+with_counts counts live p = record { place = p.place; counts = counts; live_slots = live; next = p.next }
 
 -- GOING ON. Nothing is looked at behind a fault, by `and_then`. Here: `f` at i, i + 1 and so on, n times.
 unfoldable pub each : (ℕ → Progress → Checked) → ℕ → ℕ → Progress → Checked
@@ -60,7 +60,7 @@ unfoldable pub pass_leaf : ℕ → Progress → Progress
 pass_leaf next p =
     let c = p.counts in
     let counts : Counts = record { leaves = c.leaves + 1; value_slots = c.value_slots; sub_layers = c.sub_layers } in
-    with_place (p.place + 400) (with_chain true next (with_counts counts p.live_slots p))
+    with_place (p.place + 400) (with_next (Some next) (with_counts counts p.live_slots p))
 
 unfoldable pub pass_internode : Progress → Progress
 pass_internode p = with_place (p.place + 256) p
@@ -70,10 +70,10 @@ abbrev pub enter_layer : Progress → Progress
 enter_layer p =
     let c = p.counts in
     let counts : Counts = record { leaves = c.leaves; value_slots = c.value_slots; sub_layers = c.sub_layers + 1 } in
-    with_chain false 0 (with_counts counts p.live_slots p)
+    with_next None (with_counts counts p.live_slots p)
 
 unfoldable pub leave_layer : Progress → Progress → Progress
-leave_layer above p = with_chain above.chained above.next p
+leave_layer above p = with_next above.next p
 
 -- RECORDS. "On reaching a record 3: offset not a multiple of 8, below the place reached, or record running into the
 -- trailer": a record of `size` bytes at `at`.
@@ -120,9 +120,14 @@ slot_c sub image depth at lo hi i p =
     (pick (not (in_order image at i && in_range lo hi s)) (Err SlotOrder)
     (pick (leb 128 s.keylenx) (layer_slot_c sub s p) (pick (eqb s.keylenx 64) (suffix_c at s p) (Ok (pass_value 0 s.live p))))))
 
--- LEAVES. "9: the previous leaf's `next` is not this leaf".
+-- LEAVES. Where a layer has had a leaf, the last one's next is `at`.
+unfoldable pub is_next : ℕ → Option ℕ → Bool
+is_next at None = true
+is_next at (Some next) = eqb next at
+
+-- "9: the previous leaf's `next` is not this leaf".
 unfoldable pub expected : ℕ → Progress → Bool
-expected at p = not p.chained || eqb p.next at
+expected at p = is_next at p.next
 
 -- "5: permutation": the fifteen fields, each below 15 and equal to none before it.
 unfoldable pub fresh_from : ℕ → ℕ → ℕ → ℕ → Bool
@@ -185,7 +190,7 @@ node_c sub image depth (suc n) at lo hi p =
 
 -- LAYERS. "0 and 2^64 being a layer's" ends. "After a layer 9: last `next` not 0."
 unfoldable pub layer_with : (ℕ → Progress → Checked) → List ℕ → ℕ → ℕ → Progress → Checked
-layer_with sub image depth root p = and_then (node_c sub image depth 12 root 0 (2 ^ 64) p) (λ q. demand LeafChain (eqb q.next 0) q)
+layer_with sub image depth root p = and_then (node_c sub image depth 12 root 0 (2 ^ 64) p) (λ q. demand LeafChain (is_next 0 q.next) q)
 
 -- The layer at a root, with `below` more allowed below it: 31 below the tree's own.
 unfoldable pub layer_c : List ℕ → ℕ → ℕ → Progress → Checked

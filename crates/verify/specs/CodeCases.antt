@@ -5,11 +5,11 @@ use Rattle.base.specs.Kit.{Bool, true, false, not, List, [], ℕ, zero, suc, leb
 use Rattle.base.specs.Decline.{and_then}
 use Rattle.base.specs.Pick.{pick}
 use Rattle.node.specs.Version.{is_leaf, at_rest}
-use Rattle.node.specs.Permuter.{slot_at}
+use Rattle.node.specs.Permuter.{size_of, slot_at}
 use Rattle.node.specs.Layout.{version_at, permutation_at, ikey_at, keylenx_at, live_at, value_at, suffix_at, next_at, nkeys_at}
 use Rattle.verify.specs.Types.{Decline, RecordPlace, RecordVersion, LeafPermutation, SlotLength, SlotKey, SlotOrder, LeafChain, Slot, Suffix, Progress, RecordKind, Leaf, Internode, SlotCheck, Layer, Passed}
 use Rattle.layering.specs.Tree.{Fields}
-use Rattle.verify.specs.Check.{Checked, with_place, demand, pass_value, pass_leaf, enter_layer, leave_layer, reachable, expected, permutes, separators_from, listed, fits, in_order, in_range, layer_c}
+use Rattle.verify.specs.Check.{Checked, each, slot_c, with_place, demand, pass_value, pass_leaf, enter_layer, leave_layer, reachable, is_next, expected, permutes, separators_from, listed, fits, in_order, in_range, layer_c}
 
 -- A record that was reached: what its leaf or its children come to, or the fault.
 unfoldable pub after_record : Result RecordKind Decline → Checked → Checked → Checked
@@ -54,6 +54,9 @@ pub record LeafTold (image : List ℕ) (at : ℕ) : Type 0 where
 abbrev pub keyed : ℕ → ℕ → ℕ → Fields
 keyed ikey keylenx len = record { ikey = ikey; keylenx = keylenx; live = false; value = 0; start = 0; len = len; suffix = [] }
 
+abbrev pub keyed_at : List ℕ → ℕ → Slot → Fields
+keyed_at image at slot = keyed (ikey_at image at slot) (keylenx_at image at slot) (suffix_at image at slot).len
+
 -- A suffix at its place, and a slot that passed its tests, by its kind.
 unfoldable pub suffix_check : ℕ → Suffix → Bool → Progress → Result SlotCheck Decline
 suffix_check at s live p =
@@ -68,14 +71,12 @@ kind_check image at slot p =
 unfoldable pub slot_check : List ℕ → ℕ → ℕ → ℕ → ℕ → ℕ → Progress → Result SlotCheck Decline
 slot_check image depth at lo hi i p =
     let slot = slot_at (permutation_at image at) (record { 0 = i }) in
-    pick (not (listed depth (keyed (ikey_at image at slot) (keylenx_at image at slot) 0))) (Err SlotLength)
-    (pick (not (fits depth (keyed 0 (keylenx_at image at slot) (suffix_at image at slot).len))) (Err SlotKey)
-    (pick (not (in_order image at i && in_range lo hi (keyed (ikey_at image at slot) (keylenx_at image at slot) 0))) (Err SlotOrder)
-    (kind_check image at slot p)))
+    let s = keyed_at image at slot in
+    pick (not (listed depth s)) (Err SlotLength)
+    (pick (not (fits depth s)) (Err SlotKey) (pick (not (in_order image at i && in_range lo hi s)) (Err SlotOrder) (kind_check image at slot p)))
 
--- A leaf in the image and its permutation, which is one of 0 to 14.
+-- A leaf's permutation, which is one of 0 to 14.
 pub record Opened (image : List ℕ) (at permutation : ℕ) : Type 0 where
-  pub inside : at + 400 ≤ length image
   pub is : permutation ≡ permutation_at image at
   pub permuted : permutes permutation ≡ true
 
@@ -86,8 +87,13 @@ record_end at size q = demand RecordPlace (eqb at q.place) (with_place (q.place 
 unfoldable pub leaf_end : List ℕ → ℕ → Progress → Checked
 leaf_end image at q = demand RecordPlace (eqb at q.place) (pass_leaf (next_at image at) q)
 
+-- A leaf's slots, and its end.
+abbrev pub leaf_parts : (ℕ → Progress → Checked) → List ℕ → ℕ → ℕ → ℕ → ℕ → Progress → Checked
+leaf_parts sub image depth at lo hi p =
+    and_then (each (slot_c sub image depth at lo hi) 0 (size_of (permutation_at image at)) p) (leaf_end image at)
+
 unfoldable pub layer_end : Progress → Checked
-layer_end q = demand LeafChain (eqb q.next 0) q
+layer_end q = demand LeafChain (is_next 0 q.next) q
 
 -- NUMBERS STAY SMALL. All that is counted is at most the place reached, but for `ahead` slots of leaves that are not passed
 -- yet: a leaf takes 400 bytes and has at most 15 slots, so that `ahead` is at most 15 for each layer on the way down. No more

@@ -10,15 +10,15 @@ mod record;
 mod slot;
 
 ghost use Rattle.std.specs.Prelude.{◌≡◌, ◌+◌, ◌*◌, ◌-◌, ◌≤◌};
-ghost use Rattle.node.specs.Layout.{permutation_at};
-ghost use Rattle.node.specs.Permuter.{size_of};
-ghost use Rattle.verify.specs.Check.{each, slot_c, node_c, check};
-ghost use Rattle.verify.specs.CodeCases.{sub_c, LeafTold, Bounded, Sized};
+ghost use Rattle.verify.specs.Check.{node_c, check};
+ghost use Rattle.verify.specs.CodeCases.{sub_c, leaf_parts, LeafTold, Bounded, Sized};
 
 use base::Decline;
+use node::internode::{INTERNODE_SIZE, InternodeReader};
 use node::leaf::LeafReader;
-use node::permuter::Position;
-use node::{internode, permuter, trailer};
+use node::nodeversion::RecordKind;
+use node::permuter::{self, Position};
+use node::trailer::{self, Trailer};
 use slot::Slots;
 
 // The three numbers of an accepted image.
@@ -29,16 +29,22 @@ pub struct Counts {
     pub sub_layers: usize,
 }
 
-// How far the check has come: the place reached; the leaf that the last one names as its next; what was counted, and how many
-// of the value slots are live; and whether this layer has had a leaf. The small field stands last: between wide ones the gap
-// behind it would be copied, which took two thirds of the check's time.
+// An image whose length the check takes.
+#[derive(Clone, Copy)]
+pub struct SizedImage<'a> {
+    pub bytes: &'a [u8],
+    ghost sized: { Sized bytes.now },
+}
+
+// How far the check has come: the place reached; what was counted, and how many of the value slots are live; and what this
+// layer's last leaf, if it has had one, names as its next. The option stands last: between wide fields the gap in it would be
+// copied, which took two thirds of the check's time.
 #[derive(Clone, Copy, Debug, PartialEq, Eq)]
 pub struct Progress {
     pub place: usize,
-    pub next: u64,
     pub counts: Counts,
     pub live_slots: usize,
-    pub chained: bool,
+    pub next: Option<u64>,
 }
 
 // The ikeys of a subtree lie from lo to `top`.
@@ -46,13 +52,6 @@ pub struct Progress {
 pub struct Ends {
     pub lo: u64,
     pub top: u64,
-}
-
-// What a record is, on being reached.
-#[derive(Clone, Copy, Debug, PartialEq, Eq)]
-pub enum RecordKind {
-    Leaf,
-    Internode,
 }
 
 // What a used slot comes to: a layer to be checked, whose root is given; or the progress past a value slot.
@@ -67,78 +66,77 @@ pub fn check_image(image: &[u8]) -> Result<Counts, Decline>
     ensures { result ≡ check image.now }
 {
     trailer::check_heading(image)?;
-    let q = check_subtree(
-        image,
-        31,
-        12,
-        trailer::root(image),
-        LAYER_ENDS,
-        pass::begin(),
-    )?;
-    pass::finish(image, pass::end_layer(q)?)
+    let sized = SizedImage { bytes: image };
+    let trailer = Trailer { image };
+    let q = check_subtree(sized, 31, 12, trailer.root(), LAYER_ENDS, pass::begin())?;
+    pass::finish(trailer, pass::end_layer(q)?)
 }
 
 // A layer's ends.
 const LAYER_ENDS: Ends = Ends {
     lo: 0,
-    top: 18446744073709551615,
+    top: u64::MAX,
 };
 
 // The subtree at an offset, in a layer that `below` more may lie below, with `path` internodes left on a path.
 #[cycle(check_layers_check_subtree)]
 fn check_subtree(
-    image: &[u8],
+    image: SizedImage,
     below: usize,
     path: usize,
     at: u64,
     ends: Ends,
     mut p: Progress,
 ) -> Result<Progress, Decline>
-    requires sized { Sized image.now }
     requires below_bound { below ≤ 31 }
     requires bounded { Bounded (15 * (31 - below)) p }
-    ensures { result ≡ node_c (sub_c image.now below) image.now (31 - below) path at ends.lo (ends.top + 1) p }
+    ensures { result ≡ node_c (sub_c image.entry.bytes.now below) image.entry.bytes.now (31 - below) path at ends.lo (ends.top + 1) p }
 {
     let kind = record::record_check(image, path, at, ends, p)?;
     let place = at as usize;
     match kind {
-        RecordKind::Leaf => {
-            let slots = check_layers(image, below, place, ends, p)?;
-            pass::end_leaf(image, place, slots)
-        }
+        RecordKind::Leaf => check_layers(image, below, place, ends, p),
         RecordKind::Internode => {
-            for i in 0..record::child_count(image, place) {
-                let child = internode::child(image, place, i);
-                let child_ends = record::child_ends(image, place, ends, i);
+            let node = InternodeReader {
+                image: image.bytes,
+                at: place,
+            };
+            // Children are counted: they are words of the image behind a reader, and no slice.
+            for i in 0..record::child_count(node) {
+                let child = node.child(i);
+                let child_ends = record::child_ends(node, ends, i);
                 p = check_subtree(image, below, path - 1, child, child_ends, p)?;
             }
-            pass::end_record(place, internode::INTERNODE_SIZE, p)
+            pass::end_record(place, INTERNODE_SIZE, p)
         }
     }
 }
 
-// The used slots of the leaf at an offset, each layer among them with its subtree.
+// The leaf at an offset: its used slots, each layer among them with its subtree, and then its end.
 #[cycle(check_layers_check_subtree)]
 fn check_layers(
-    image: &[u8],
+    image: SizedImage,
     below: usize,
     at: usize,
     ends: Ends,
     mut p: Progress,
 ) -> Result<Progress, Decline>
-    requires sized { Sized image.now }
     requires below_bound { below ≤ 31 }
-    requires leaf_told { LeafTold image.now at }
+    requires leaf_told { LeafTold image.bytes.now at }
     requires bounded { Bounded (15 * (31 - below)) p }
-    ensures { result ≡ each (slot_c (sub_c image.now below) image.now (31 - below) at ends.lo (ends.top + 1)) 0 (size_of (permutation_at image.now at)) p }
+    ensures { result ≡ leaf_parts (sub_c image.entry.bytes.now below) image.entry.bytes.now (31 - below) at ends.lo (ends.top + 1) p }
 {
-    let leaf = LeafReader { image, at };
+    let leaf = LeafReader {
+        image: image.bytes,
+        at,
+    };
     let slots = Slots {
         leaf,
         permutation: leaf.permutation(),
         depth: 31 - below,
         ends,
     };
+    // Positions are counted: the order is one number.
     for i in 0..permuter::size(slots.permutation) {
         let found = slots.check(Position(i), p)?;
         p = match found {
@@ -150,5 +148,5 @@ fn check_layers(
             }
         };
     }
-    Ok(p)
+    pass::end_leaf(leaf, p)
 }

@@ -1,16 +1,15 @@
 // A leaf's used slot (01's numbers 6, 7, 8 and 3).
-ghost use Rattle.std.specs.Prelude.{◌≡◌, ◌&&◌, ◌+◌, ◌-◌, ◌%◌, ◌^◌, ◌≤◌, ◌<◌};
+ghost use Rattle.std.specs.Prelude.{◌≡◌, ◌+◌, ◌-◌, ◌%◌, ◌^◌, ◌≤◌, ◌<◌};
 ghost use Rattle.base.specs.Kit.{eqb};
 ghost use Rattle.node.specs.Permuter.{slot_at};
-ghost use Rattle.node.specs.Layout.{InSlot, ikey_at, keylenx_at, suffix_at};
-ghost use Rattle.verify.specs.Check.{listed, fits, before, in_order, in_range};
-ghost use Rattle.verify.specs.CodeCases.{keyed, suffix_check, kind_check, slot_check, Opened, Bounded};
+ghost use Rattle.node.specs.Layout.{suffix_at, live_at};
+ghost use Rattle.verify.specs.Check.{listed, fits, before, in_range};
+ghost use Rattle.verify.specs.CodeCases.{keyed, keyed_at, suffix_check, kind_check, slot_check, Opened, Bounded};
 
 use crate::{Ends, Progress, SlotCheck, pass};
 use base::Decline;
-use node::leaf::{LeafReader, Suffix};
-use node::permuter::{Position, Slot};
-use node::{leaf, permuter};
+use node::leaf::{self, LeafReader, SlotKind, SlotReader, Suffix};
+use node::permuter::{self, Position};
 
 // A leaf's slots: its permutation, which is one of 0 to 14; the depth of its layer; and the ends of its ikeys.
 #[derive(Clone, Copy)]
@@ -34,24 +33,39 @@ fn is_filled(ikey: u64, n: u64) -> bool
     (ikey >> free) << free == ikey
 }
 
-// Number 6.
-fn is_listed(depth: usize, ikey: u64, keylenx: u8) -> bool
+// Number 6 of a key that ends in its slot.
+#[tactic(auto, using(std::proofs::lemmas::Bool::Decides::nat_tests), unfolding(crate::specs::Check::listed, base::specs::Pick::pick))]
+fn is_inline_listed(depth: usize, ikey: u64, keylenx: u8) -> bool
+    requires { keylenx ≤ 8 }
     ensures { result ≡ listed depth (keyed ikey keylenx 0) }
 {
-    if 8 < keylenx {
-        return keylenx == leaf::KSUF_KEYLENX || leaf::LAYER_KEYLENX <= keylenx;
-    }
     if 0 < keylenx {
         return is_filled(ikey, u64::from(keylenx));
     }
     depth == 0 && ikey == 0
 }
 
-// Number 8 for two slots, the second behind the first.
-fn is_before(ikey: u64, keylenx: u8, ikey2: u64, keylenx2: u8) -> bool
-    ensures { result ≡ before (keyed ikey keylenx 0) (keyed ikey2 keylenx2 0) }
+// Number 6.
+#[tactic(auto, using(std::proofs::lemmas::Bool::Decides::nat_tests), unfolding(crate::specs::Check::listed, node::specs::Layout::slot_kind, base::specs::Pick::pick))]
+fn is_listed(depth: usize, slot: SlotReader) -> bool
+    ensures { result ≡ listed depth (keyed_at slot.entry.leaf.image.now slot.entry.leaf.at slot.entry.slot) }
 {
-    ikey < ikey2 || (ikey == ikey2 && (keylenx < keylenx2 && keylenx < leaf::KSUF_KEYLENX))
+    match slot.kind() {
+        SlotKind::Inline => is_inline_listed(depth, slot.ikey(), slot.keylenx()),
+        SlotKind::Unlisted => false,
+        _ => true,
+    }
+}
+
+// Number 8 for two slots, the second behind the first. By `keylenx` as a number: the slots of one ikey ascend by it.
+#[tactic(auto, using(std::proofs::lemmas::Bool::Decides::nat_tests), unfolding(crate::specs::Check::before))]
+fn is_before(slot: SlotReader, next: SlotReader) -> bool
+    ensures { result ≡ before (keyed_at slot.entry.leaf.image.now slot.entry.leaf.at slot.entry.slot) (keyed_at next.entry.leaf.image.now next.entry.leaf.at next.entry.slot) }
+{
+    let keylenx = slot.keylenx();
+    slot.ikey() < next.ikey()
+        || (slot.ikey() == next.ikey()
+            && (keylenx < next.keylenx() && keylenx < leaf::KSUF_KEYLENX))
 }
 
 // Number 3 for a suffix of the leaf at `at`.
@@ -66,79 +80,68 @@ fn suffix_check(at: usize, s: Suffix, live: bool, p: Progress) -> Result<SlotChe
     Ok(SlotCheck::Passed(pass::pass_value(p, s.len.next_multiple_of(8), live)))
 }
 
+// A slot that passed numbers 6 to 8, by its kind. A layer's live bit is not read.
+#[tactic(auto, using(std::proofs::lemmas::Bool::Decides::nat_tests), unfolding(crate::specs::CodeCases::kind_check, node::specs::Layout::slot_kind, base::specs::Pick::pick))]
+fn check_kind(slot: SlotReader, p: Progress) -> Result<SlotCheck, Decline>
+    requires bounded { Bounded 480 p }
+    requires at_bound { slot.leaf.at ≤ 16777216 }
+    ensures { result ≡ kind_check slot.entry.leaf.image.now slot.entry.leaf.at slot.entry.slot p }
+{
+    match slot.kind() {
+        SlotKind::Layer => Ok(SlotCheck::Layer(slot.value())),
+        SlotKind::Suffix => suffix_check(slot.leaf.at, slot.ksuf(), slot.live(), p),
+        _ => Ok(SlotCheck::Passed(pass::pass_value(p, 0, slot.live()))),
+    }
+}
+
 impl<'a> Slots<'a> {
+    fn slot(self, position: Position) -> SlotReader<'a>
+        requires { position.0 < 15 }
+        ensures leaf { result.leaf ≡ self.entry.leaf }
+        ensures slot { result.slot ≡ slot_at self.entry.permutation position }
+    {
+        SlotReader {
+            leaf: self.leaf,
+            slot: permuter::get(self.permutation, position),
+        }
+    }
+
     // Number 7.
-    fn fits_key(self, slot: Slot, keylenx: u8) -> bool
-        requires { InSlot self.leaf.image.now self.leaf.at slot }
-        ensures { result ≡ fits self.entry.depth (keyed 0 keylenx (suffix_at self.entry.leaf.image.now self.entry.leaf.at slot).len) }
+    #[tactic(auto, using(std::proofs::lemmas::Bool::Decides::nat_tests), unfolding(crate::specs::Check::fits, node::specs::Layout::slot_kind, base::specs::Pick::pick))]
+    fn fits_key(self, slot: SlotReader) -> bool
+        ensures { result ≡ fits self.entry.depth (keyed_at slot.entry.leaf.image.now slot.entry.leaf.at slot.entry.slot) }
     {
-        if keylenx == leaf::KSUF_KEYLENX {
-            let s = self.leaf.ksuf(slot);
-            return 0 < s.len && s.len <= 248 - 8 * self.depth;
+        match slot.kind() {
+            SlotKind::Suffix => {
+                let len = slot.ksuf().len;
+                0 < len && len <= 248 - 8 * self.depth
+            }
+            SlotKind::Layer => self.depth < 31,
+            _ => true,
         }
-        keylenx < leaf::LAYER_KEYLENX || self.depth < 31
     }
 
-    // Number 8 for the slot at a position and the one before it.
-    fn is_in_order(self, position: Position, ikey: u64, keylenx: u8) -> bool
-        requires position_bound { position.0 < 15 }
-        requires ikey_value { ikey ≡ ikey_at self.leaf.image.now self.leaf.at (slot_at self.permutation position) }
-        requires keylenx_value { keylenx ≡ keylenx_at self.leaf.image.now self.leaf.at (slot_at self.permutation position) }
-        ensures { result ≡ in_order self.entry.leaf.image.now self.entry.leaf.at position.0 }
-    {
-        let i = position.0;
-        if i == 0 {
-            return true;
-        }
-        let slot = permuter::get(self.permutation, Position(i - 1));
-        is_before(self.leaf.ikey(slot), self.leaf.keylenx(slot), ikey, keylenx)
-    }
-
-    // Number 8.
-    fn is_placed(self, position: Position, ikey: u64, keylenx: u8) -> bool
-        requires position_bound { position.0 < 15 }
-        requires ikey_value { ikey ≡ ikey_at self.leaf.image.now self.leaf.at (slot_at self.permutation position) }
-        requires keylenx_value { keylenx ≡ keylenx_at self.leaf.image.now self.leaf.at (slot_at self.permutation position) }
-        ensures { result ≡ in_order self.entry.leaf.image.now self.entry.leaf.at position.0 && in_range self.entry.ends.lo (self.entry.ends.top + 1) (keyed ikey keylenx 0) }
-    {
-        self.is_in_order(position, ikey, keylenx) && (self.ends.lo <= ikey && ikey <= self.ends.top)
-    }
-
-    // A slot that passed numbers 6 to 8, by its kind. A layer's live bit is not read.
-    fn check_kind(self, slot: Slot, p: Progress) -> Result<SlotCheck, Decline>
-        requires in_slot { InSlot self.leaf.image.now self.leaf.at slot }
-        requires bounded { Bounded 480 p }
-        ensures { result ≡ kind_check self.entry.leaf.image.now self.entry.leaf.at slot p }
-    {
-        let keylenx = self.leaf.keylenx(slot);
-        if leaf::LAYER_KEYLENX <= keylenx {
-            return Ok(SlotCheck::Layer(self.leaf.value(slot)));
-        }
-        let live = self.leaf.live(slot);
-        if keylenx == leaf::KSUF_KEYLENX {
-            return suffix_check(self.leaf.at, self.leaf.ksuf(slot), live, p);
-        }
-        Ok(SlotCheck::Passed(pass::pass_value(p, 0, live)))
-    }
-
-    // The slot at a position.
+    // The slot at a position: it is listed, its key fits, and it lies behind the slot before it and between the leaf's ends.
     pub fn check(self, position: Position, p: Progress) -> Result<SlotCheck, Decline>
         requires position_bound { position.0 < 15 }
         requires bounded { Bounded 480 p }
         ensures { result ≡ slot_check self.entry.leaf.image.now self.entry.depth self.entry.leaf.at self.entry.ends.lo (self.entry.ends.top + 1) position.0 p }
     {
-        let slot = permuter::get(self.permutation, position);
-        let ikey = self.leaf.ikey(slot);
-        let keylenx = self.leaf.keylenx(slot);
-        if !is_listed(self.depth, ikey, keylenx) {
+        let slot = self.slot(position);
+        if !is_listed(self.depth, slot) {
             return Err(Decline::SlotLength);
         }
-        if !self.fits_key(slot, keylenx) {
+        if !self.fits_key(slot) {
             return Err(Decline::SlotKey);
         }
-        if !self.is_placed(position, ikey, keylenx) {
+        let i = position.0;
+        if 0 < i && !is_before(self.slot(Position(i - 1)), slot) {
             return Err(Decline::SlotOrder);
         }
-        self.check_kind(slot, p)
+        let ikey = slot.ikey();
+        if ikey < self.ends.lo || self.ends.top < ikey {
+            return Err(Decline::SlotOrder);
+        }
+        check_kind(slot, p)
     }
 }

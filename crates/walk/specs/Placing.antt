@@ -1,8 +1,8 @@
 -- Placing a walk, over any bytes (01, "Place a walk").
-use Rattle.std.specs.Prelude.{Option, None, Some, Result, Ok, Err}
+use Rattle.std.specs.Prelude.{None, Some, Result, Ok, Err}
 use Rattle.base.specs.Kit.{List, ℕ, ltb, length}
 use Rattle.base.specs.Pick.{pick}
-use Rattle.base.specs.Decline.{number_of, and_then}
+use Rattle.base.specs.Decline.{number_if, and_then}
 use Rattle.base.specs.declared.Decline.{Decline}
 use Rattle.base.specs.declared.Decline.TheVariants.{CursorLength, BoundKind, BoundLength}
 use Rattle.node.specs.Layout.{root_offset}
@@ -31,11 +31,6 @@ start_state mode n = pick (ltb 8 n) Start (short_state mode)
 unfoldable pub fresh_walk : List ℕ → StartMode → List ℕ → ℕ → List ℕ → Walk
 fresh_walk image mode key kind bound =
     new_walk (length image) (root_offset image) (from_slice key) (bound_of kind bound) mode (start_state mode (length key))
-
--- a decline's number, 0 for none
-unfoldable pub number_if : Option Decline → ℕ
-number_if None = 0
-number_if (Some d) = number_of d
 
 -- "a declined placing gives the all-zero walk, ended"
 abbrev pub placed_by : Result Unit Decline → Walk → Placed

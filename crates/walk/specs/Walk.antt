@@ -1,7 +1,7 @@
 -- A walk between calls, over any record: what a step's answer says, the walk that has made no move, and the range of a walk's numbers
 -- (01, "Place a walk", "Step a walk").
 use Rattle.std.specs.Prelude.{◌&&◌, ◌∷◌, ◌+◌, ◌*◌, Some, None, Ok, Err}
-use Rattle.base.specs.Decline.{number_of as decline_number}
+use Rattle.base.specs.Decline.{decline_number}
 use Rattle.base.specs.Kit.{Bool, List, [], ℕ, leb, eqb, replicate}
 use Rattle.walk.specs.Types.{CursorKey, RangeBound, StartMode, Above, LayerContext, WalkState, Ended, HandedOut, Walk, WalkNumbers, Answer}
 

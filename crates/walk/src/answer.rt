@@ -3,16 +3,14 @@ ghost use Rattle.std.specs.Prelude.{◌≡◌};
 ghost use Rattle.walk.specs.Walk.{number_of, answer_numbers};
 
 use crate::scan_state::{Answer, HandedOut, KeyOut};
+use base::number_if;
 
-// Its number, 0 where the step was not declined.
-#[tactic(auto, unfolding(crate::specs::Walk::number_of))]
+// Its number, 0 where the step was not declined. (No code here calls it: it is for callers that keep a number.)
+#[tactic(auto, unfolding(crate::specs::Walk::number_of, base::specs::Decline::number_if))]
 pub fn answer_number(answer: Answer) -> u8
     ensures { result ≡ number_of answer }
 {
-    match answer {
-        Ok(_) => 0,
-        Err(decline) => u8::from(decline),
-    }
+    number_if(answer.err())
 }
 
 // Its keys, key length and value, the moves, and the depth and the count of what the walk has handed out.

@@ -1,8 +1,9 @@
 // A walk between calls (the Rust's scan_state.rs): its record, its placing, the test of its numbers, what it has handed out, and what a
 // step's answer says.
 //
-// Interface: `placing::place` and `placing::place_short`, which take anything, the types of scan_state, `walk_ok::is_walk_ok`, and
-// answer's two functions. None has a `requires`. Those of handed_out are the step's.
+// Interface: `placing::place` and `placing::place_short`, which take anything, `placing::check_placing` and `Placed::code`; the types of
+// scan_state; `walk_ok::is_walk_ok` and `WalkNumbers::is_in_range`; and answer's two functions. None has a `requires`. Those of handed_out
+// are the step's.
 #![tactic(auto)]
 
 pub mod answer;

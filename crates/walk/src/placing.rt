@@ -4,13 +4,13 @@ ghost use Rattle.walk.specs.Walk.{new_walk, zero_walk};
 ghost use Rattle.walk.specs.Placing.{placing, start_state, fresh_walk, code_of, place, place_short};
 
 use crate::handed_out;
-use crate::scan_state::{LayerContext, Placed, Walk, WalkState};
-use base::Decline;
+use crate::scan_state::{EMPTY_CONTEXT, Placed, Walk, WalkState};
+use base::{Decline, number_if};
 use cursor::cursor_key::CursorKey;
 use cursor::range_bound::{RangeBound, StartMode};
 use cursor::{cursor_key, range_bound};
 use node::permuter::Position;
-use node::trailer;
+use node::trailer::{self, Trailer};
 
 // A walk that has made no move.
 fn new_walk(
@@ -30,7 +30,7 @@ fn new_walk(
         position: Position(0),
         cursor,
         depth: 0,
-        stack: [LayerContext { root: 0, leaf: 0 }; 31],
+        stack: [EMPTY_CONTEXT; 31],
         bound,
         mode,
         state,
@@ -90,14 +90,14 @@ fn start_state(mode: StartMode, n: usize) -> WalkState
 }
 
 // The walk of a placing that is not declined.
-#[tactic(auto, unfolding(crate::specs::Placing::fresh_walk))]
+#[tactic(auto, unfolding(crate::specs::Placing::fresh_walk), using(crate::proofs::PlaceLaws::placed_fits))]
 fn fresh_walk(image: &[u8], mode: StartMode, cursor: &[u8], kind: u8, bound: &[u8]) -> Walk
     requires { placing image.now cursor.now kind bound.now ≡ Ok tt }
     ensures { result ≡ fresh_walk image.now mode cursor.now kind bound.now }
 {
     new_walk(
         image.len(),
-        trailer::root(image),
+        Trailer { image }.root(),
         cursor_key::from_slice(cursor),
         range_bound::bound_of(kind, bound),
         mode,
@@ -106,15 +106,12 @@ fn fresh_walk(image: &[u8], mode: StartMode, cursor: &[u8], kind: u8, bound: &[u
 }
 
 impl Placed {
-    // Its number, 0 where it is not declined.
-    #[tactic(auto, unfolding(crate::specs::Placing::code_of, crate::specs::Placing::number_if))]
+    // Its number, 0 where it is not declined. (No code here calls it: it is for callers that keep a number.)
+    #[tactic(auto, unfolding(crate::specs::Placing::code_of))]
     pub fn code(&self) -> u8
         ensures { result ≡ code_of self.now }
     {
-        match self.declined {
-            None => 0,
-            Some(decline) => u8::from(decline),
-        }
+        number_if(self.declined)
     }
 }
 

@@ -11,6 +11,9 @@ pub struct LayerContext {
     pub leaf: u64,
 }
 
+// What the stack holds past its last entry.
+pub const EMPTY_CONTEXT: LayerContext = LayerContext { root: 0, leaf: 0 };
+
 // A walk's state between calls.
 #[derive(Clone, Copy, Debug, PartialEq, Eq)]
 pub enum WalkState {
@@ -27,7 +30,7 @@ pub struct HandedOut {
     pub count: usize,
 }
 
-// A walk between calls.
+// A walk between calls. (Its stack is an array with the depth beside: there is no heap, and C's record has it so.)
 #[derive(Clone, Copy)]
 pub struct Walk {
     pub image_len: usize,
@@ -43,7 +46,7 @@ pub struct Walk {
     pub handed: HandedOut,
 }
 
-// A placing: why it is declined, if it is, and the walk.
+// A placing: why it is declined, if it is, and the walk. No Result: a declined placing has a walk too, the all-zero one.
 #[derive(Clone, Copy)]
 pub struct Placed {
     pub declined: Option<Decline>,
@@ -60,7 +63,8 @@ pub struct KeyOut {
 // A step's answer: a key or none, where the step is not declined.
 pub type Answer = Result<Option<KeyOut>, Decline>;
 
-// A step: its answer, its moves, what the walk has handed out with it (zeros where the step is declined), and the walk after it.
+// A step: its answer, its moves, what the walk has handed out with it (zeros where the step is declined), and the walk after it. (No Result:
+// a declined step gives the walk back as it came.)
 #[derive(Clone, Copy)]
 pub struct Stepped {
     pub answer: Answer,

@@ -4,7 +4,7 @@ ghost use Rattle.walk.specs.Walk.{in_range, walk_ok};
 
 use crate::scan_state::Walk;
 
-// The numbers of a walk that have a range, as a walk or its record has them.
+// The numbers of a walk that have a range, as a walk or its record has them: each fills them in, and no walk is made of a record for the test.
 #[derive(Clone, Copy, Debug, PartialEq, Eq)]
 pub struct WalkNumbers {
     pub image_len: usize,

@@ -5,7 +5,7 @@ use Rattle.base.specs.Kit.{refl, true, List, ℕ, zero, suc, arith, leb, length,
 use Rattle.base.specs.Pick.{pick}
 use Rattle.walk.specs.Walk.{empty_context}
 use Rattle.walk_record.specs.Types.{StartMode, Above, From, Walk, WalkState, Start, Retry, FindNext, Ended}
-use Rattle.walk_record.specs.Record.{numbers_in, mode_number, mode_of, state_number, state_of, stack_numbers, numbers_of, entry_at, entries, read_walk, sized, is_record}
+use Rattle.walk_record.specs.Record.{numbers_in, mode_number, mode_of, state_number, state_of, stack_numbers, numbers_of, entry_at, entries, read_walk, sized, is_readable, is_record}
 use Rattle.walk_record.proofs.Tabled.{tabled, tabled_all}
 use Rattle.walk_record.proofs.Told.{record_told}
 
@@ -60,7 +60,7 @@ unfolding entries entry_at numbers_of stack_numbers tabled
 stack_back w a = tabled_all empty_context w.stack 31 a.stack_is
 
 is-record : (w : Walk) → Arrays w → is_record (numbers_of w) w.cursor.buf w.bound.key ≡ true
-unfolding is_record sized numbers_of stack_numbers
+unfolding is_record is_readable sized numbers_of stack_numbers
 is-record w a = rw (a.buf-is, a.key-is, le-leb _ _ a.kind_fits, state-fits w.state, mode-fits w.mode)
 
 walk_back : (w : Walk) → Arrays w → read_walk (numbers_of w) w.cursor.buf w.bound.key ≡ w

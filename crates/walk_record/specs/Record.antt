@@ -112,8 +112,10 @@ read_walk numbers buf bound = record {
 unfoldable pub sized : ℕ → ℕ → ℕ → Bool
 sized numbers buf bound = eqb numbers numbers_in && eqb buf 256 && eqb bound 256
 
--- Whether a record is a walk's: its lengths, a kind that is a byte, one of the four states, and one of the two start modes.
+-- Whether a walk can be read of its numbers: a kind that is a byte, one of the four states, and one of the two start modes.
+unfoldable pub is_readable : List ℕ → Bool
+is_readable numbers = leb (get_or numbers kind_at 0) 255 && leb (get_or numbers state_at 0) 3 && leb (get_or numbers mode_at 0) 1
+
+-- Whether a record is a walk's: its lengths, and those three numbers.
 unfoldable pub is_record : List ℕ → List ℕ → List ℕ → Bool
-is_record numbers buf bound =
-    sized (length numbers) (length buf) (length bound) && leb (get_or numbers kind_at 0) 255 && leb (get_or numbers state_at 0) 3
-    && leb (get_or numbers mode_at 0) 1
+is_record numbers buf bound = sized (length numbers) (length buf) (length bound) && is_readable numbers

@@ -1,32 +1,21 @@
 // A walk and the record in which it crosses to C: 76 numbers and two buffers of 256 bytes, which the caller lends.
 ghost use Rattle.std.specs.Prelude.{◌≡◌, ◌≤◌};
-ghost use Rattle.base.specs.Kit.{length, get_or};
-ghost use Rattle.walk_record.specs.Record.{kind_at, numbers_in, mode_number, mode_of, state_number, state_of, numbers_of, entries, read_walk, sized, is_record};
+ghost use Rattle.base.specs.Kit.{get_or};
+ghost use Rattle.walk_record.specs.Record.{kind_at, mode_number, mode_of, state_number, state_of, numbers_of, entries, read_walk, is_readable};
 ghost use Rattle.walk_record.specs.CodeLaid.{head_of, read_cursor, read_bound, read_handed};
 
 use crate::layout;
 use cursor::cursor_key::CursorKey;
 use cursor::range_bound::{RangeBound, StartMode};
 use node::permuter::Position;
-use walk::scan_state::{HandedOut, LayerContext, Walk, WalkState};
+use walk::scan_state::{EMPTY_CONTEXT, HandedOut, LayerContext, Walk, WalkState};
 
-// Whether the three lengths are a record's.
-#[tactic(auto, using(std::proofs::lemmas::Bool::Decides::nat_tests), unfolding(crate::specs::Record::sized))]
-pub fn is_sized(numbers: usize, buf: usize, bound: usize) -> bool
-    ensures { result ≡ sized numbers buf bound }
+// Whether a walk can be read of a record's numbers.
+#[tactic(auto, using(std::proofs::lemmas::Bool::Decides::nat_tests), unfolding(crate::specs::Record::is_readable))]
+pub fn is_readable(numbers: &[u64; layout::NUMBERS]) -> bool
+    ensures { result ≡ is_readable numbers.now }
 {
-    numbers == layout::NUMBERS && buf == 256 && bound == 256
-}
-
-// Whether a record is a walk's.
-#[tactic(auto, using(std::proofs::lemmas::Bool::Decides::nat_tests, crate::proofs::Told::sized_long), unfolding(crate::specs::Record::is_record))]
-pub fn is_record(numbers: &[u64], buf: &[u8], bound: &[u8]) -> bool
-    ensures { result ≡ is_record numbers.now buf.now bound.now }
-{
-    is_sized(numbers.len(), buf.len(), bound.len())
-        && numbers[layout::KIND] <= 255
-        && numbers[layout::STATE] <= 3
-        && numbers[layout::MODE] <= 1
+    numbers[layout::KIND] <= 255 && numbers[layout::STATE] <= 3 && numbers[layout::MODE] <= 1
 }
 
 #[tactic(auto, unfolding(crate::specs::Record::mode_number))]
@@ -36,7 +25,7 @@ fn mode_number(mode: StartMode) -> u64
     mode as u64
 }
 
-// Of any number, as a record may hold it: `is_record` tells which are a mode's.
+// Of any number, as a record may hold it: `is_readable` tells which are a mode's. (No TryFrom: number and enum are other crates'.)
 #[tactic(auto, using(std::proofs::lemmas::Bool::Decides::nat_tests), unfolding(crate::specs::Record::mode_of, base::specs::Pick::pick))]
 fn mode_of(n: u64) -> StartMode
     ensures { result ≡ mode_of n }
@@ -92,6 +81,7 @@ fn head_of(walk: Walk) -> [u64; layout::NUMBERS]
 }
 
 // All numbers of a walk.
+#[tactic(auto, using(crate::proofs::Turns::spread_done, crate::proofs::Turns::spread_all))]
 fn numbers_of(walk: Walk) -> [u64; layout::NUMBERS]
     ensures { result ≡ numbers_of walk }
 {
@@ -103,18 +93,8 @@ fn numbers_of(walk: Walk) -> [u64; layout::NUMBERS]
     n
 }
 
-// The numbers of s into a slice of the same length.
-pub fn copy_words(to: &mut [u64], s: &[u64])
-    requires { length to.old ≡ length s.now }
-    ensures { to.new ≡ s.now }
-{
-    to.copy_from_slice(s);
-}
-
 // A walk's numbers and its cursor's buffer into a record, whose bound stays.
-pub fn put_moved(walk: Walk, numbers: &mut [u64], buf: &mut [u8])
-    requires numbers_len { length numbers.old ≡ numbers_in }
-    requires buf_len { length buf.old ≡ 256 }
+pub fn put_moved(walk: Walk, numbers: &mut [u64; layout::NUMBERS], buf: &mut [u8; 256])
     ensures { (numbers.new ≡ numbers_of walk) × (buf.new ≡ walk.cursor.buf) }
 {
     numbers.copy_from_slice(&numbers_of(walk));
@@ -122,10 +102,12 @@ pub fn put_moved(walk: Walk, numbers: &mut [u64], buf: &mut [u8])
 }
 
 // A walk into a record.
-pub fn put_walk(walk: Walk, numbers: &mut [u64], buf: &mut [u8], bound: &mut [u8])
-    requires numbers_len { length numbers.old ≡ numbers_in }
-    requires buf_len { length buf.old ≡ 256 }
-    requires bound_len { length bound.old ≡ 256 }
+pub fn put_walk(
+    walk: Walk,
+    numbers: &mut [u64; layout::NUMBERS],
+    buf: &mut [u8; 256],
+    bound: &mut [u8; 256],
+)
     ensures { (numbers.new ≡ numbers_of walk)
         × (buf.new ≡ walk.cursor.buf)
         × (bound.new ≡ walk.bound.key) }
@@ -134,11 +116,11 @@ pub fn put_walk(walk: Walk, numbers: &mut [u64], buf: &mut [u8], bound: &mut [u8
     bound.copy_from_slice(&walk.bound.key);
 }
 
-fn read_stack(numbers: &[u64]) -> [LayerContext; 31]
-    requires { length numbers.now ≡ numbers_in }
+#[tactic(auto, using(crate::proofs::Turns::fill_done, crate::proofs::Turns::fill_all))]
+fn read_stack(numbers: &[u64; layout::NUMBERS]) -> [LayerContext; 31]
     ensures { result ≡ entries numbers.now 0 31 }
 {
-    let mut stack = [LayerContext { root: 0, leaf: 0 }; 31];
+    let mut stack = [EMPTY_CONTEXT; 31];
     for (i, e) in stack.iter_mut().enumerate() {
         *e = LayerContext {
             root: numbers[layout::STACK + 2 * i],
@@ -148,24 +130,12 @@ fn read_stack(numbers: &[u64]) -> [LayerContext; 31]
     stack
 }
 
-// A slice of 256 bytes as an array.
-fn bytes_of(s: &[u8]) -> [u8; 256]
-    requires { length s.now ≡ 256 }
-    ensures { result ≡ s.now }
-{
-    let mut bytes = [0u8; 256];
-    bytes.copy_from_slice(s);
-    bytes
-}
-
 #[tactic(auto, unfolding(crate::specs::CodeLaid::read_cursor))]
-fn read_cursor(numbers: &[u64], buf: &[u8]) -> CursorKey
-    requires numbers_len { length numbers.now ≡ numbers_in }
-    requires buf_len { length buf.now ≡ 256 }
+fn read_cursor(numbers: &[u64; layout::NUMBERS], buf: &[u8; 256]) -> CursorKey
     ensures { result ≡ read_cursor numbers.now buf.now }
 {
     CursorKey {
-        buf: bytes_of(buf),
+        buf: *buf,
         offset: numbers[layout::OFFSET] as usize,
         len: numbers[layout::LEN] as usize,
         ikey: numbers[layout::IKEY],
@@ -173,23 +143,20 @@ fn read_cursor(numbers: &[u64], buf: &[u8]) -> CursorKey
 }
 
 #[tactic(auto, unfolding(crate::specs::CodeLaid::read_bound))]
-fn read_bound(numbers: &[u64], bound: &[u8]) -> RangeBound
-    requires numbers_len { length numbers.now ≡ numbers_in }
-    requires bound_len { length bound.now ≡ 256 }
-    requires kind_at_bound { get_or numbers.now kind_at 0 ≤ 255 }
+fn read_bound(numbers: &[u64; layout::NUMBERS], bound: &[u8; 256]) -> RangeBound
+    requires { get_or numbers.now kind_at 0 ≤ 255 }
     ensures { result ≡ read_bound numbers.now bound.now }
 {
     RangeBound {
         kind: numbers[layout::KIND] as u8,
         len: numbers[layout::BOUND_LEN] as usize,
-        key: bytes_of(bound),
+        key: *bound,
     }
 }
 
 // What a record's walk has handed out.
 #[tactic(auto, unfolding(crate::specs::CodeLaid::read_handed))]
-pub fn read_handed(numbers: &[u64]) -> HandedOut
-    requires { length numbers.now ≡ numbers_in }
+pub fn read_handed(numbers: &[u64; layout::NUMBERS]) -> HandedOut
     ensures { result ≡ read_handed numbers.now }
 {
     HandedOut {
@@ -200,11 +167,8 @@ pub fn read_handed(numbers: &[u64]) -> HandedOut
 
 // The walk of a record.
 #[tactic(auto, unfolding(crate::specs::Record::read_walk, crate::specs::CodeLaid::read_cursor, crate::specs::CodeLaid::read_bound, crate::specs::CodeLaid::read_handed))]
-pub fn read_walk(numbers: &[u64], buf: &[u8], bound: &[u8]) -> Walk
-    requires numbers_len { length numbers.now ≡ numbers_in }
-    requires buf_len { length buf.now ≡ 256 }
-    requires bound_len { length bound.now ≡ 256 }
-    requires kind_at_bound { get_or numbers.now kind_at 0 ≤ 255 }
+pub fn read_walk(numbers: &[u64; layout::NUMBERS], buf: &[u8; 256], bound: &[u8; 256]) -> Walk
+    requires { get_or numbers.now kind_at 0 ≤ 255 }
     ensures { result ≡ read_walk numbers.now buf.now bound.now }
 {
     Walk {

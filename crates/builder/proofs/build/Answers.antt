@@ -10,8 +10,8 @@ pub returns-in_err-opened : goal.returns-in_err-opened
 returns-in_err-opened c =
     rw (handed_on _ _ _ c.from_residual.ensures.1 refl) (sheet_declined _ _ _ c.in_err-opened.ensures)
 
-pub layer_size-size-requires : goal.layer_size-size-requires
-layer_size-size-requires c = (taken _ _ c.in_ok-opened.ensures).fit
+pub invariant_of-top : goal.invariant_of-top
+invariant_of-top c = record { fit = (taken _ _ c.in_ok-opened.ensures).fit }
 
 pub overflow_add-end : goal.overflow_add-end
 overflow_add-end c = omega (arith, size-bound _ _ c.in_ok-opened.ensures _ c.layer_size-size.ensures)
@@ -28,7 +28,7 @@ pub write_image-requires : goal.write_image-requires
 write_image-requires c =
     let e = c.in_ok-opened.ensures in
     let n : length (take (c.layer_size-size.result + 40) c.args.out.now) ≡ c.layer_size-size.result + 40 = length-take-le _ _ (omega arith) in record {
-      fit = (taken _ _ e).fit;
+      is_top = refl;
       out_len = n ∙ sym (long _ _ e _ c.layer_size-size.ensures (omega arith));
       out_len_bound = omega arith;
     }

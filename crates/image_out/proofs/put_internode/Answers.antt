@@ -9,5 +9,5 @@ returns c =
     let a = c.args in
     let k : length a.c.separators ≡ 15 = search rules in
     let l : length a.c.nodes ≡ 16 = search rules in
-    internode_puts a.out.now a.at a.c _ _ _ _ c.requires c.put_low_half.ensures c.put_low_half-2.ensures (rw k at c.put_words.ensures)
+    internode_puts a.out.now a.at a.c _ _ _ _ c.requires c.put_le.ensures c.put_le-2.ensures (rw k at c.put_words.ensures)
     (rw l at c.put_words-2.ensures)

@@ -20,4 +20,4 @@ returns c = λ fs e.
     let v : length a.s.values ≡ 15 = search rules in
     let x : length a.s.suffixes ≡ 15 = search rules in
     leaf_puts a.out.now a.at a.s _ _ _ _ _ _ c.requires.at_in_bounds c.put_leaf_head.ensures (rw i at c.put_words.ensures) c.put_lens.ensures
-    (rw v at c.put_words-2.ensures) (rw x at c.put_words-3.ensures) c.put_u64.ensures fs e (omega (arith, few (goal.at.returns c).Start, slots_n a.s fs e))
+    (rw v at c.put_words-2.ensures) (rw x at c.put_words-3.ensures) c.put_le.ensures fs e (omega (arith, few (goal.at.returns c).Start, slots_n a.s fs e))

@@ -5,5 +5,5 @@ use Rattle.image_out.proofs.put_leaf_head.Goals as goal
 pub returns : goal.returns
 returns c =
     let a = c.args in
-    head_puts a.out.now a.at a.mask a.n _ _ _ c.requires.at_in_bounds c.put_low_half.ensures c.put_low_half-2.ensures
-    c.put_u64.ensures
+    head_puts a.out.now a.at a.mask a.n _ _ _ c.requires.at_in_bounds c.put_le.ensures c.put_le-2.ensures
+    c.put_le-3.ensures

@@ -5,5 +5,5 @@ use Rattle.image_out.proofs.put_trailer.Goals as goal
 pub returns : goal.returns
 returns c =
     let a = c.args in
-    trailer_puts a.out.now a.at a.root a.count _ _ _ _ c.requires c.put_u64.ensures c.put_u64-2.ensures
-    c.put_u64-3.ensures c.put_u64-4.ensures
+    trailer_puts a.out.now a.at a.root a.count _ _ _ _ c.requires c.put_le.ensures c.put_le-2.ensures
+    c.put_le-3.ensures c.put_le-4.ensures

@@ -12,7 +12,7 @@ loop-i-init c = (search rules, search rules, rw (add-zero, sub-zero))
 pub loop-i-preserved : goal.loop-i-preserved
 loop-i-preserved c =
     let a = c.args in
-    let e = c.put_u64.ensures in
+    let e = c.put_le.ensures in
     let h : c.loop-i.i < length a.row.now = omega arith in
     let at = a.at + 8 * c.loop-i.i in
     let k : at + 8 * (length a.row.now - c.loop-i.i) ≤ length c.loop-i.out = omega arith in

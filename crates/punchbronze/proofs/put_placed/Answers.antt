@@ -1,33 +1,20 @@
--- `put_placed` meets its contract: the test of the lengths decides for all four.
-use Rattle.base.specs.Kit.{not, ap, refl, sym, ◌∙◌}
-use Rattle.base.proofs.Choice.{not-pick-on, not-pick_off}
-use Rattle.walk.specs.Placing.{code_of}
+-- A record of which one length is another stays.
+use Rattle.std.proofs.lemmas.Bool.Decides.{nat_tests}
+use Rattle.base.specs.Kit.{length, arith, rules}
+use Rattle.base.specs.Pick.{pick}
+use Rattle.walk_record.specs.Record.{sized}
+use Rattle.walk_record.proofs.Told.{unsized_bound}
 use Rattle.punchbronze.specs.Interface.{placed_number, placed_numbers, placed_buf, placed_bound}
-use Rattle.walk_record.proofs.Told.{sized_told}
+use Rattle.punchbronze.proofs.Lent.{not_placed}
 use Rattle.punchbronze.proofs.put_placed.Goals as goal
+use Rattle.punchbronze.proofs.put_placed.Goals.{in_default-via-in-None-1, in_default-via-in-Some+in-None-1, in_default-via-in-Some+in-Some-as_mut_array+in-None-1}
 
-pub returns-then-not-is_sized : goal.returns-then-not-is_sized
-unfolding placed_number placed_numbers placed_buf placed_bound
-returns-then-not-is_sized c =
-    let test = c.is_sized.ensures in
-    record {
-      number = not-pick_off _ _ test _ _ _ (ap not c.if-not-is_sized.true) c.from.ensures;
-      numbers-left = not-pick_off _ _ test _ _ _ (ap not c.if-not-is_sized.true) refl;
-      buf-left = not-pick_off _ _ test _ _ _ (ap not c.if-not-is_sized.true) refl;
-      bound-left = not-pick_off _ _ test _ _ _ (ap not c.if-not-is_sized.true) refl;
-    }
-
-pub put_walk-requires : goal.put_walk-requires
-put_walk-requires c =
-    let t = sized_told _ _ _ (sym c.is_sized.ensures ∙ c.if-not-is_sized.false) in record { numbers_len = t.numbers-is; buf_len = t.buf-is; bound_len = t.bound-is }
-
-pub returns : goal.returns
-unfolding code_of placed_number placed_numbers placed_buf placed_bound
-returns c =
-    let test = c.is_sized.ensures in
-    record {
-      number = not-pick-on _ _ test _ _ _ (ap not c.if-not-is_sized.false) c.number_of.ensures;
-      numbers-left = not-pick-on _ _ test _ _ _ (ap not c.if-not-is_sized.false) c.put_walk.ensures.0;
-      buf-left = not-pick-on _ _ test _ _ _ (ap not c.if-not-is_sized.false) c.put_walk.ensures.1;
-      bound-left = not-pick-on _ _ test _ _ _ (ap not c.if-not-is_sized.false) c.put_walk.ensures.2;
-    }
+pub returns-2 : goal.returns-2
+unfolding placed_number placed_numbers placed_buf placed_bound sized pick
+returns-2 c = elim c.in_default.branch [
+  | in_default-via-in-None-1 w ↦ grind (arith, nat_tests)
+  | in_default-via-in-Some+in-None-1 w ↦ grind (arith, nat_tests)
+  | in_default-via-in-Some+in-Some-as_mut_array+in-None-1 w ↦
+      rw (w.numbers-is, w.in-Some.ensures.cases.same, w.buf-is, w.in-Some-as_mut_array.ensures.cases.same, w.bound-is, c.from.ensures)
+      (not_placed _ _ _ _ (unsized_bound (length c.args.numbers.now) (length c.args.buf.now) (length c.args.bound.now) (search rules)))
+]

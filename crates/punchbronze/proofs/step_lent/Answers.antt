@@ -1,16 +1,25 @@
--- `step_lent` meets its contract: the two tests stand in the order of the definition, and then the step is the record's.
-use Rattle.base.specs.Kit.{◌∙◌, sym}
-use Rattle.record_step.proofs.Steps.{no_room, no_record}
+-- No step is made where there is no room, or where the record is no walk's.
+use Rattle.std.proofs.lemmas.Bool.Decides.{nat_tests}
+use Rattle.base.specs.Kit.{sym, ◌∙◌, arith, rules}
+use Rattle.base.specs.Pick.{pick}
+use Rattle.walk_record.specs.Record.{is_record, sized}
+use Rattle.walk_record.proofs.Told.{bound_none, unreadable_none}
+use Rattle.record_step.specs.Step.{step_number, left, step_numbers, step_buf}
+use Rattle.record_step.specs.CodeStep.{step_out}
+use Rattle.record_step.proofs.Steps.{no_record}
 use Rattle.punchbronze.proofs.step_lent.Goals as goal
+use Rattle.punchbronze.proofs.step_lent.Goals.{in_default-via-in-None-1, in_default-via-in-Some+in-None-1, in_default-via-in-Some+in-Some-as_mut_array+in-None-1, in_default-via-in-Some+in-Some-as_mut_array+in-Some-as_mut_array-2+in-None-1, in_default-via-in-Some+in-Some-as_mut_array+in-Some-as_mut_array-2+in-Some-as_array+else-is_readable}
 
-pub step_record-requires : goal.step_record-requires
-step_record-requires c = record { out_len = c.if-out-ne6.false; bound_value = (sym c.is_record.ensures ∙ c.if-not-is_record.false) }
-
-pub returns-then-out-ne6 : goal.returns-then-out-ne6
-returns-then-out-ne6 c = no_room _ _ _ _ _ c.if-out-ne6.true
-
-pub returns-then-not-is_record : goal.returns-then-not-is_record
-returns-then-not-is_record c = no_record _ _ _ _ _ c.if-out-ne6.false ((sym c.is_record.ensures ∙ c.if-not-is_record.true))
-
-pub returns : goal.returns
-returns c = c.step_record.ensures
+pub returns-2 : goal.returns-2
+unfolding step_number step_numbers step_buf step_out left is_record sized pick
+returns-2 c = elim c.in_default.branch [
+  | in_default-via-in-None-1 w ↦ grind (arith, nat_tests)
+  | in_default-via-in-Some+in-None-1 w ↦ grind (arith, nat_tests)
+  | in_default-via-in-Some+in-Some-as_mut_array+in-None-1 w ↦ grind (arith, nat_tests)
+  | in_default-via-in-Some+in-Some-as_mut_array+in-Some-as_mut_array-2+in-None-1 w ↦
+      rw (w.numbers-is, w.in-Some-as_mut_array.ensures.cases.same, w.buf-is, w.in-Some-as_mut_array-2.ensures.cases.same, w.out-is, w.in-Some.ensures.cases.same)
+      (no_record _ _ _ _ _ w.in-Some.ensures.cases.long (bound_none c.args.numbers.now c.args.buf.now c.args.bound.now (search rules)))
+  | in_default-via-in-Some+in-Some-as_mut_array+in-Some-as_mut_array-2+in-Some-as_array+else-is_readable w ↦
+      rw (w.numbers-is, w.in-Some-as_mut_array.ensures.cases.same, w.buf-is, w.in-Some-as_mut_array-2.ensures.cases.same, w.out-is, w.in-Some.ensures.cases.same)
+      (no_record _ _ _ _ _ w.in-Some.ensures.cases.long (unreadable_none _ _ _ (rw w.in-Some-as_mut_array.ensures.cases.same at (sym w.is_readable.ensures ∙ w.if-is_readable.false))))
+]

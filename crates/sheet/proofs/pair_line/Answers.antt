@@ -2,7 +2,6 @@
 use Rattle.std.specs.Prelude.{◌≡◌, ◌∷◌, ◌++◌, ◌+◌}
 use Rattle.base.specs.Kit.{◌∙◌, List, [], ℕ, arith, length, length-append}
 use Rattle.sheet.specs.Sheet.{hex_key, pair_line}
-use Rattle.sheet.proofs.Decimal.{decimal-length}
 use Rattle.sheet.proofs.Paste.{one-behind, too_long, in_two}
 use Rattle.sheet.proofs.pair_line.Goals.{then-out-h-via-then-out-h, then-out-h-via-else-out-h+then-out-h-2}
 use Rattle.sheet.proofs.pair_line.Goals as goal
@@ -34,12 +33,3 @@ returns c =
     let place : counted.result + 1 ≡ length (head args.key.now) = omega (arith, head-length args.key.now) in
     let space = one-behind args.out.now (hex_key args.key.now) _ counted.result 32 counted.ensures (omega arith) c.put_hex_key.ensures in
     in_two args.out.now (head args.key.now) args.value _ _ (omega arith) (omega arith) (written.ensures.1 ∙ rw (space, place))
-
-pub overflow_add-h : goal.overflow_add-h
-overflow_add-h c = omega (arith, decimal-length c.args.value)
-
-pub overflow_add-h-2 : goal.overflow_add-h-2
-overflow_add-h-2 c = omega (arith, decimal-length c.args.value)
-
-pub overflow_add-h-else-out-h : goal.overflow_add-h-else-out-h
-overflow_add-h-else-out-h c = omega (arith, decimal-length c.args.value)

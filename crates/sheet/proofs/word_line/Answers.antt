@@ -1,6 +1,5 @@
 -- `sheet::word_line` meets its contract: the text, then the number and a newline.
 use Rattle.base.specs.Kit.{◌∙◌, arith}
-use Rattle.sheet.proofs.Decimal.{decimal-length}
 use Rattle.sheet.proofs.Paste.{too_long, in_two}
 use Rattle.sheet.proofs.word_line.Goals as goal
 
@@ -15,9 +14,3 @@ returns c =
     let args = c.args in
     in_two args.out.now args.word.now args.x _ _ (omega arith) written.ensures.0
     (written.ensures.1 ∙ rw c.copy_in.ensures)
-
-pub overflow_add-at : goal.overflow_add-at
-overflow_add-at c = omega (arith, decimal-length c.args.x)
-
-pub overflow_add-at-2 : goal.overflow_add-at-2
-overflow_add-at-2 c = omega (arith, decimal-length c.args.x)

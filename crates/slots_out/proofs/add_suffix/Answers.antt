@@ -24,9 +24,9 @@ short : (c : After-part_of-key) → length (suffix c) ≤ 248
 short c =
     suffix-short _ _ _ c.requires.long_line _ _ _ (rw c.unwrap-read.ensures at c.station_at.ensures) (omega arith) _ c.part_of-key.ensures (suffix c) refl
 
-within : (c : After-part_of-key) → c.args.at + (length (suffix c) + 7) / 8 * 8 ≤ length c.args.out.now
+within : (c : After-part_of-key) → c.args.before.at + (length (suffix c) + 7) / 8 * 8 ≤ length c.args.out.now
 within c =
-    omega (arith, c.requires.line_in_bounds (λ ps. beyond), suffix_end _ _ _ c.requires.long_line _ _ _ (rw c.unwrap-read.ensures at c.station_at.ensures) (omega arith) _ c.part_of-key.ensures (suffix c) refl c.args.at)
+    omega (arith, c.requires.line_in_bounds (λ ps. beyond), suffix_end _ _ _ c.requires.long_line _ _ _ (rw c.unwrap-read.ensures at c.station_at.ensures) (omega arith) _ c.part_of-key.ensures (suffix c) refl c.args.before.at)
 
 pub overflow_sub-read : goal.overflow_sub-read
 overflow_sub-read c = omega (arith, sizes (goal.at.overflow_sub-read c).After-unwrap-read)
@@ -54,4 +54,4 @@ overflow_add-word c =
 pub returns : goal.returns
 returns c =
     suffix-laid _ _ _ c.requires.long_line _ _ _ (rw c.unwrap-read.ensures at c.station_at.ensures) (omega arith) _ c.part_of-key.ensures _ refl
-    c.args.out.now _ c.args.at _ c.args.slots _ c.put_padded-behind.ensures c.ikey_of.ensures c.add_slot.ensures
+    c.args.out.now _ c.args.before.at _ c.args.before.slots _ c.put_padded-behind.ensures c.ikey_of.ensures c.add_slot.ensures

@@ -15,9 +15,6 @@ unfolding start_position
 returns-in_err-slot c =
     handed_on _ _ _ c.from_residual.ensures.1 (search (start-fault, c.in_err-slot.ensures.value))
 
-pub judge-requires-clause-in_slot : goal.judge-requires-clause-in_slot
-judge-requires-clause-in_slot c = search (rules, c.in_ok-slot.ensures.in_leaf)
-
 pub returns-in_err-judge : goal.returns-in_err-judge
 unfolding start_position
 returns-in_err-judge c =

@@ -7,11 +7,11 @@ use Rattle.verify.proofs.check_image.Goals as goal
 pub returns-in_err-check_heading : goal.returns-in_err-check_heading
 returns-in_err-check_heading c = handed_on _ _ _ c.from_residual.ensures.1 (declined _ _ c.in_err-check_heading.ensures)
 
-pub root-requires : goal.root-requires
-root-requires c = heading-long _ _ c.in_ok-check_heading.ensures
+pub invariant_of-sized : goal.invariant_of-sized
+invariant_of-sized c = record { sized = heading-sized _ _ c.in_ok-check_heading.ensures }
 
-pub check_subtree-requires-clause-sized : goal.check_subtree-requires-clause-sized
-check_subtree-requires-clause-sized c = heading-sized _ _ c.in_ok-check_heading.ensures
+pub invariant_of-trailer : goal.invariant_of-trailer
+invariant_of-trailer c = record { whole = heading-long _ _ c.in_ok-check_heading.ensures }
 
 pub returns-in_err-q : goal.returns-in_err-q
 returns-in_err-q c =
@@ -23,11 +23,8 @@ returns-in_err-end_layer c =
     handed_on _ _ _ c.from_residual-in_err-end_layer.ensures.1
     (end_stopped _ _ c.in_ok-check_heading.ensures _ c.begin.ensures _ c.root.ensures _ c.in_ok-q.ensures _ refl _ c.in_err-end_layer.ensures)
 
-pub finish-requires-clause-in_bounds : goal.finish-requires-clause-in_bounds
-finish-requires-clause-in_bounds c = heading-long _ _ c.in_ok-check_heading.ensures
-
-pub finish-requires-clause-bounded : goal.finish-requires-clause-bounded
-finish-requires-clause-bounded c =
+pub finish-requires : goal.finish-requires
+finish-requires c =
     whole-kept _ _ c.in_ok-check_heading.ensures _ c.begin.ensures _ c.root.ensures _ c.in_ok-q.ensures _ refl _ c.in_ok-end_layer.ensures
 
 pub returns : goal.returns

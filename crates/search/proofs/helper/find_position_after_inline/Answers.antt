@@ -7,25 +7,20 @@ use Rattle.base.proofs.Choice.{differs, agrees}
 use Rattle.search.proofs.Answers.{long, short}
 use Rattle.search.proofs.HelperLaws.{inline-fault, inline_turn_lem, inline-stop}
 use Rattle.search.proofs.helper.find_position_after_inline.Goals as goal
+use Rattle.search.proofs.helper.find_position_after_inline.Goals.{then-ikey-k-via-then-ikey-k, then-ikey-k-via-else-ikey-k+then-is_not_shorter}
 
 pub returns-in_err-slot : goal.returns-in_err-slot
 unfolding behind
 returns-in_err-slot c =
     handed_on _ _ _ c.from_residual.ensures.1 (search (inline-fault, c.in_err-slot.ensures.value))
 
-pub ikey-requires : goal.ikey-requires
-ikey-requires c = search (rules, c.in_ok-slot.ensures.in_leaf)
-
-pub keylenx-requires : goal.keylenx-requires
-keylenx-requires c = search (rules, c.in_ok-slot.ensures.in_leaf)
-
 pub returns-then-ikey-k : goal.returns-then-ikey-k
 unfolding behind
-returns-then-ikey-k c = search (inline_turn_lem, differs, c.in_ok-slot.ensures.value)
-
-pub returns-then-is_not_shorter : goal.returns-then-is_not_shorter
-unfolding behind
-returns-then-is_not_shorter c = search (inline_turn_lem, agrees, long, c.in_ok-slot.ensures.value)
+returns-then-ikey-k c =
+    elim c.then-ikey-k.branch [
+      | then-ikey-k-via-then-ikey-k w ↦ search (inline_turn_lem, differs, c.in_ok-slot.ensures.value, w.if-ikey-k.true)
+      | then-ikey-k-via-else-ikey-k+then-is_not_shorter w ↦ search (inline_turn_lem, agrees, long, c.in_ok-slot.ensures.value)
+    ]
 
 pub loop-i-preserved : goal.loop-i-preserved
 unfolding behind

@@ -6,4 +6,4 @@ use Rattle.search.proofs.helper.find_position_after_suffix.Given as goal
 
 abbrev pub invariant-loop-i : goal.invariant-loop-i
 invariant-loop-i l =
-    (l.i ≤ l.size) × (after_suffix l.leaf.image.now l.leaf.at l.k l.buf l.i (l.size - l.i) ≡ after_suffix l.leaf.image.now l.leaf.at l.k l.buf l.initial.i (size_of (permutation_at l.leaf.image.now l.leaf.at) - l.initial.i))
+    (l.i ≤ l.size) × (after_suffix l.start.s.leaf.image.now l.start.s.leaf.at l.c.place l.c.buf.now l.i (l.size - l.i) ≡ after_suffix l.start.s.leaf.image.now l.start.s.leaf.at l.c.place l.c.buf.now l.initial.i (size_of (permutation_at l.start.s.leaf.image.now l.start.s.leaf.at) - l.initial.i))

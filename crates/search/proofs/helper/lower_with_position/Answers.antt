@@ -15,9 +15,6 @@ unfolding lower_with_position
 returns-in_err-slot c =
     handed_on _ _ _ c.from_residual.ensures.1 (search (lower-fault, c.in_err-slot.ensures.value))
 
-pub ikey-slot_ikey-requires : goal.ikey-slot_ikey-requires
-ikey-slot_ikey-requires c = search (rules, c.in_ok-slot.ensures.in_leaf)
-
 pub returns-then-ikey-slot_ikey : goal.returns-then-ikey-slot_ikey
 unfolding lower_with_position
 returns-then-ikey-slot_ikey c = search (lower_turn_lem, by_less, c.in_ok-slot.ensures.value)

