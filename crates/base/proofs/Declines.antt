@@ -25,7 +25,8 @@ unfolding and_then
 then_ind P (Ok x) f g h = h x refl
 then_ind P (Err d) f g h = g d refl
 
--- a call's decline is that of the whole
-pub then_err : {A B : Type 0} (r : Result A Decline) (f : A → Result B Decline) (d : Decline) → Err d ≡ r → Err d ≡ and_then r f
+-- an answer that is Ok, by the answer before it and what follows
+pub both_ok : {A B : Type 0} (r : Result A Decline) (f : A → Result B Decline) (y : B) → and_then r f ≡ Ok y → (x : A) × (r ≡ Ok x) × (f x ≡ Ok y)
 unfolding and_then
-then_err r f d e = rw (← e)
+both_ok (Ok x) f y e = (x, refl, e)
+both_ok (Err d) f y e = cc

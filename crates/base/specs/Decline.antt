@@ -1,6 +1,7 @@
 -- The numbers of the declines: "A declined call returns its number"; the check's are 1 to 10, a placing's 1, 2 and 11 to 13, a step's 21
 -- to 23, the builder's 31 to 33.
-use Rattle.std.specs.Prelude.{◌≡◌, ℕ, Option, Some, None, Result, Ok, Err}
+use Rattle.std.specs.Prelude.{◌≡◌, ℕ, List, Option, Some, None, Result, Ok, Err}
+use Rattle.std.specs.Fmt.{decimal}
 use Rattle.base.specs.declared.Decline.{Decline}
 use Rattle.base.specs.declared.Decline.TheVariants.{ImageLength, Trailer, RecordPlace, RecordVersion, LeafPermutation, SlotLength, SlotKey, SlotOrder, LeafChain, KeyCount, CursorLength, BoundKind, BoundLength, WalkRange, Unreadable, MovesSpent, SheetForm, SheetOrder, ImageRoom}
 
@@ -28,6 +29,10 @@ decline_number ImageRoom = 33
 -- n is a decline's number.
 abbrev pub HasNumber : Decline → ℕ → Type 0
 HasNumber d n = n ≡ decline_number d
+
+-- A decline is shown as its number, in decimal.
+abbrev pub decline_text : Decline → List ℕ
+decline_text d = decimal (decline_number d)
 
 -- A call's number, by its decline if it has one: 0 for none.
 unfoldable pub number_if : Option Decline → ℕ

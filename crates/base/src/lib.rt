@@ -3,8 +3,8 @@
 // Interface: `Decline`; the number of one, `u8::from`, which it is shown as; and of a call that may be declined, `number_if`.
 #![tactic(auto)]
 
-ghost use Rattle.std.specs.Prelude.{◌≡◌};
-ghost use Rattle.base.specs.Decline.{HasNumber, number_if};
+ghost use Rattle.std.specs.Prelude.{◌≡◌, Some};
+ghost use Rattle.base.specs.Decline.{HasNumber, decline_text, number_if};
 
 use std::fmt;
 
@@ -61,6 +61,8 @@ impl From<Decline> for u8 {
 
 /// A decline is shown as its number, as C and a sheet have it.
 impl fmt::Display for Decline {
+    ghost output = { λ d. Some (decline_text d) };
+
     fn fmt<W: fmt::Write>(&self, f: &mut fmt::Formatter<W>) -> fmt::Result {
         write!(f, "{}", u8::from(*self))
     }

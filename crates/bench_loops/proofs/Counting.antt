@@ -1,12 +1,12 @@
 -- The counting loops: their invariant, and what each way through a turn says of it; and what the placing's number decides.
-use Rattle.std.specs.Prelude.{◌≡◌, ◌+◌, ◌-◌, ◌≤◌, ◌<◌, Option, None, Some}
-use Rattle.base.specs.Kit.{refl, ◌∙◌, List, [], ℕ, suc, sub-zero, zero-add, arith, length}
+use Rattle.std.specs.Prelude.{◌≡◌, ◌+◌, ◌-◌, ◌≤◌, ◌<◌, Option, None, Some, Result, Ok}
+use Rattle.base.specs.Kit.{refl, ◌∙◌, ap, List, [], ℕ, suc, sub-zero, zero-add, arith, length}
 use Rattle.base.specs.Pick.{pick}
 use Rattle.base.specs.declared.Decline.{Decline}
 use Rattle.base.proofs.Count.{left-more}
 use Rattle.cursor.specs.declared.range_bound.StartMode.TheVariants.{Above}
 use Rattle.walk.specs.Walk.{keys_of}
-use Rattle.walk.specs.Placing.{place}
+use Rattle.walk.specs.Placing.{place, walk_unless, accepted}
 use Rattle.scan.specs.Machine.{step}
 use Rattle.walk.specs.declared.scan_state.Placed.{Placed}
 use Rattle.walk.specs.declared.scan_state.Walk.{Walk}
@@ -43,10 +43,15 @@ no_key : (a : Answer) (rest : ℕ) → keys_of a ≡ 0 → count_key a rest ≡ 
 unfolding count_key pick
 no_key a rest e = rw e
 
--- nothing is declined
-all_if : (o : Option Decline) → ((d : Decline) → o ≡ Some d → ⊥) → (n : ℕ) → n ≡ none_if o n
-all_if None h n = refl
-all_if (Some d) h n = absurd (h d refl)
+-- the placing's walk is handed out
+taken : (o : Option Decline) (w v : Walk) → walk_unless o w ≡ Ok v → (keys : Walk → ℕ) → keys v ≡ none_if o (keys w)
+taken None w v e keys = let same : v ≡ w = cc in ap keys same
+taken (Some d) w v e keys = absurd (cc)
+
+-- no walk is
+refused : (o : Option Decline) (w : Walk) → ((v : Walk) → walk_unless o w ≡ Ok v → ⊥) → (n : ℕ) → 0 ≡ none_if o n
+refused None w h n = absurd (h w refl)
+refused (Some d) w h n = refl
 
 module _ (image : List ℕ) (w₀ w : Walk) (count : ℕ) (inv : Counts image w₀ w count) where
   module _ (h : count < length image) (s : Stepped) (e : s ≡ step w image) where
@@ -62,13 +67,13 @@ module _ (image : List ℕ) (w₀ w : Walk) (count : ℕ) (inv : Counts image w�
   pub runs-out : length image ≤ count → length image ≡ keys_from (length image) w₀ image
   runs-out h = let t = no_turn image (length image) count w h in omega (arith, t, inv)
 
-module _ (image : List ℕ) (p : Placed) (e : p ≡ place image Above [] 0 []) where
+module _ (image : List ℕ) (p : Placed) (e : p ≡ place image Above [] 0 []) (r : Result Walk Decline) (f : r ≡ accepted p) where
   -- the placing is declined
-  pub declined : (d : Decline) → p.declined ≡ Some d → 0 ≡ keys_above image
-  unfolding keys_above
-  declined d h = rw (← e, h)
+  pub declined : ((w : Walk) → r ≡ Ok w → ⊥) → 0 ≡ keys_above image
+  unfolding keys_above accepted
+  declined h = rw (← e) (refused p.declined p.walk (rw f at h) _)
 
   -- the walk is counted
-  pub counted : ((d : Decline) → p.declined ≡ Some d → ⊥) → (n : ℕ) → n ≡ keys_from (length image) p.walk image → n ≡ keys_above image
-  unfolding keys_above
-  counted h n f = rw (← e) (f ∙ all_if p.declined h _)
+  pub counted : (w : Walk) → r ≡ Ok w → (n : ℕ) → n ≡ keys_from (length image) w image → n ≡ keys_above image
+  unfolding keys_above accepted
+  counted w g n k = rw (← e) (k ∙ taken p.declined p.walk w (rw f at g) (λ (v : Walk). keys_from (length image) v image))

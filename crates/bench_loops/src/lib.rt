@@ -29,14 +29,13 @@ fn place_all(image: &[u8]) -> Placed
 pub extern "C" fn timed_walk(image: &[u8], form: u8) -> u64
     ensures { result ≡ keys_above image.now }
 {
-    let placed = place_all(image);
-    if let Some(_) = placed.declined {
+    let Ok(walk) = place_all(image).accepted() else {
         return 0;
-    }
+    };
     let keys = if form == 0 {
-        keys_by(scan::step::step, placed.walk, image)
+        keys_by(scan::step::step, walk, image)
     } else {
-        keys_by(lent::step_over, placed.walk, image)
+        keys_by(lent::step_over, walk, image)
     };
     keys as u64
 }
@@ -65,7 +64,8 @@ pub extern "C" fn timed_bound(names: &[u8], width: usize, kind: u8, bound: &[u8]
     count
 }
 
-// The keys that steps of a walk hand out before the first answer that is no key, of as many steps as the image has bytes.
+// The keys that steps of a walk hand out before the first answer that is no key, of as many steps as the image has bytes. (Tried: a let-else on
+// `Ok(Some(_))`, and one arm for both others, the proofs did not close: where two ways meet, nothing of the answer has a name.)
 fn keys_by<F: Fn(Walk, &[u8]) -> Stepped>(step: F, start: Walk, image: &[u8]) -> usize
     requires callable { F.IsAlwaysCallable step }
     requires steps { IsStep (F.post step) }

@@ -6,7 +6,7 @@
 
 use base::Decline;
 use key::first;
-use requests::{Request, line};
+use requests::{Hex, Request, line};
 use std::fmt;
 use verify::Counts;
 
@@ -44,19 +44,6 @@ fn fnv(bytes: &[u8]) -> u64 {
     })
 }
 
-// Bytes in hex.
-#[derive(Drop)]
-struct Hex<'a>(&'a [u8]);
-
-impl fmt::Display for Hex<'_> {
-    fn fmt<W: fmt::Write>(&self, f: &mut fmt::Formatter<W>) -> fmt::Result {
-        for byte in self.0 {
-            write!(f, "{byte:02x}")?;
-        }
-        Ok(())
-    }
-}
-
 // What the check says of an image.
 #[derive(Drop)]
 struct Verdict(Result<Counts, Decline>);
@@ -64,13 +51,7 @@ struct Verdict(Result<Counts, Decline>);
 impl fmt::Display for Verdict {
     fn fmt<W: fmt::Write>(&self, f: &mut fmt::Formatter<W>) -> fmt::Result {
         match self.0 {
-            Ok(
-                Counts {
-                    leaves,
-                    value_slots,
-                    sub_layers,
-                },
-            ) => write!(f, "accepted {leaves} {value_slots} {sub_layers}"),
+            Ok(counts) => write!(f, "accepted {counts}"),
             Err(decline) => write!(f, "refused {decline}"),
         }
     }
@@ -108,16 +89,14 @@ fn room(request: &Request<Form>) -> usize {
 
 // The requests up to the first that asks for a longer output.
 fn main(rt: HostRuntime) {
-    let mut input = rt.reader();
-    let mut space = [0u8; requests::SPACE];
     let mut out = [0u8; LONGEST];
-    for _ in 0..MOST {
-        let Some(request) = requests::read(&mut input, &mut space) else {
-            return;
-        };
-        let Some(out) = out.get_mut(..room(&request)) else {
-            return;
-        };
-        answer(&rt, &request, out);
-    }
+    requests::each(
+        &mut rt.reader(),
+        MOST,
+        &mut |request, _| {
+            let out = out.get_mut(..room(request))?;
+            answer(&rt, request, out);
+            Some(())
+        },
+    );
 }

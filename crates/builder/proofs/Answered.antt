@@ -96,3 +96,6 @@ module _ (s : List ℕ) (o : Opened) (e : Ok o ≡ opened (read_sheet s)) where
           let w = written out (rw (le-leb (length (build x.pairs)) (length out) (omega (arith, n)), le-leb (length (build x.pairs)) 16777216 (omega (arith, n))) refl) in
           let b : part ≡ build x.pairs = p ∙ ap build same in
           (ap Ok (sym n) ∙ w.0, rw (b, ← n) (put_front out (build x.pairs) ∙ w.1))
+
+-- what `build` rests on
+pub ruleset build_rules = (size-bound)

@@ -62,34 +62,51 @@ module _ (s : List ℕ) (line n : ℕ) (fit : Fit s 31 line n) where
       image_of-length (tree_for pairs) (length pairs) ∙ ap (λ (y : ℕ). y + 40) (size_n_placed (shape pairs) 8 0)
       ∙ omega (arith, length_n (shape pairs) 31 12 8 (plain few))
 
-  -- THE WRITES
-  module _ (l : LayerLines) (top : layer_at l ≡ shape pairs) (out : List ℕ) (long : length out ≡ end_n 8 (shape pairs) + 32) (short : length out ≤ 16777216) where
-    few : leaves_n (shape pairs) ≤ limit
-    few = omega (arith, leaves_end (shape pairs) 8)
+-- A TOP LAYER'S LINES, as the code has them
+fit_top : (l : LayerLines) → l.below ≡ 31 → Fit l.sheet.now 31 l.line l.left
+fit_top l e = subst (λ (b : ℕ). Fit l.sheet.now b l.line l.left) e l.fit
+
+layer_top : (l : LayerLines) → l.below ≡ 31 → layer_at l ≡ shape (pairs_in l.left (drop l.line l.sheet.now))
+layer_top l e = rw e (top_layer l.sheet.now l.line l.left (fit_top l e))
+
+-- THE WRITES
+module _ (top : LayerLines) (is : top.below ≡ 31) where
+  abbrev given : List Pair
+  given = pairs_in top.left (drop top.line top.sheet.now)
+
+  fit : Fit top.sheet.now 31 top.line top.left
+  fit = fit_top top is
+
+  layers : layer_at top ≡ shape given
+  layers = layer_top top is
+
+  module _ (out : List ℕ) (long : length out ≡ end_n 8 (shape given) + 32) (short : length out ≤ 16777216) where
+    few : leaves_n (shape given) ≤ limit
+    few = omega (arith, leaves_end (shape given) 8)
 
     abbrev records : List ℕ
-    records = bytes_n (placed_n 8 0 (shape pairs))
+    records = bytes_n (placed_n 8 0 (shape given))
 
-    records-length : 8 + length records ≡ end_n 8 (shape pairs)
-    records-length = ap (λ (y : ℕ). 8 + y) (size_n_placed (shape pairs) 8 0) ∙ length_n (shape pairs) 31 12 8 (plain few)
+    records-length : 8 + length records ≡ end_n 8 (shape given)
+    records-length = ap (λ (y : ℕ). 8 + y) (size_n_placed (shape given) 8 0) ∙ length_n (shape given) 31 12 8 (plain _ _ _ fit few)
 
     module _ (out₁ : List ℕ) (e₁ : out₁ ≡ put out 0 (le_bytes 8 0)) where
       long₁ : length out₁ ≡ length out
-      long₁ = ap length e₁ ∙ put-length out (le_bytes 8 0) 0 (omega (arith, le_bytes-length 8 0, grow_n (shape pairs) 8))
+      long₁ = ap length e₁ ∙ put-length out (le_bytes 8 0) 0 (omega (arith, le_bytes-length 8 0, grow_n (shape given) 8))
 
-      pub layers-room : LayerRoom out₁ 8 l
-      layers-room = record { some = omega arith; fits = rw top (omega (arith, long₁)); short = omega (arith, long₁) }
+      pub layers-room : LayerRoom out₁ 8 top
+      layers-room = record { some = omega arith; fits = rw layers (omega (arith, long₁)); short = omega (arith, long₁) }
 
-      module _ (out₂ : List ℕ) (q : Run) (w : LayerWrote out₁ out₂ 8 q (layer_at l)) where
-        place : q.at ≡ end_n 8 (shape pairs)
-        place = w.at ∙ ap (end_n 8) top
+      module _ (out₂ : List ℕ) (q : Run) (w : LayerWrote out₁ out₂ 8 q (layer_at top)) where
+        place : q.at ≡ end_n 8 (shape given)
+        place = w.at ∙ ap (end_n 8) layers
 
-        root : q.node ≡ offset_n (tree_for pairs)
+        root : q.node ≡ offset_n (tree_for given)
         unfolding tree_for
-        root = w.node ∙ ap (stands_at 8) top ∙ sym (stands-offset (shape pairs) 8 0)
+        root = w.node ∙ ap (stands_at 8) layers ∙ sym (stands-offset (shape given) 8 0)
 
         bytes : out₂ ≡ put out₁ 8 records
-        bytes = w.bytes ∙ ap (λ (y : Node). put out₁ 8 (bytes_n (placed_n 8 0 y))) top
+        bytes = w.bytes ∙ ap (λ (y : Node). put out₁ 8 (bytes_n (placed_n 8 0 y))) layers
 
         long₂ : length out₂ ≡ length out
         long₂ = ap length bytes ∙ put-length out₁ records 8 (omega (arith, records-length, long₁)) ∙ long₁
@@ -97,10 +114,10 @@ module _ (s : List ℕ) (line n : ℕ) (fit : Fit s 31 line n) where
         pub trailer-room : q.at + 32 ≤ length out₂
         trailer-room = omega (arith, place, long₂)
 
-        pub image-is : (out₃ : List ℕ) → n ≡ length pairs → out₃ ≡ put out₂ q.at (trailer_bytes q.at q.node n) → out₃ ≡ build pairs
+        pub image-is : (out₃ : List ℕ) → out₃ ≡ put out₂ q.at (trailer_bytes q.at q.node top.left) → out₃ ≡ build given
         unfolding build tree_for image_of flatten
-        image-is out₃ k e₃ =
-            let t : List ℕ = trailer_bytes q.at q.node n in
+        image-is out₃ e₃ =
+            let t : List ℕ = trailer_bytes q.at q.node top.left in
             let tl : length t ≡ 32 = simp (length-append, le_bytes-length) in
             let w₁ : Wrote out 0 out₁ (le_bytes 8 0) 8 = record { same = e₁; size = le_bytes-length 8 0 } in
             let w₂ : Wrote out 0 out₂ (le_bytes 8 0 ++ records) (8 + length records) = and_then w₁ records (length records) refl bytes (omega (arith, records-length)) in
@@ -110,11 +127,7 @@ module _ (s : List ℕ) (line n : ℕ) (fit : Fit s 31 line n) where
             let a : q.at + 32 ≡ length records + 40 = omega (arith, place, records-length) in
             w₃.same ∙ put_whole out (le_bytes 8 0 ++ records ++ t) (w₃.size ∙ omega (arith, records-length))
             ∙ append_assoc (le_bytes 8 0) records t
-            ∙ ap₂ (λ (x y : List ℕ). x ++ (records ++ y)) (zero-bytes 8) (ap (λ (y : ℕ). trailer_bytes q.at q.node y) k ∙ rw (root, a) refl)
+            ∙ ap₂ (λ (x y : List ℕ). x ++ (records ++ y)) (zero-bytes 8) (ap (λ (y : ℕ). trailer_bytes q.at q.node y) (sym top.fit.lines.whole) ∙ rw (root, a) refl)
 
--- A TOP LAYER'S LINES, as the code has them
-pub fit_top : (l : LayerLines) → l.below ≡ 31 → Fit l.sheet.now 31 l.line l.left
-fit_top l e = subst (λ (b : ℕ). Fit l.sheet.now b l.line l.left) e l.fit
-
-pub layer_top : (l : LayerLines) → l.below ≡ 31 → layer_at l ≡ shape (pairs_in l.left (drop l.line l.sheet.now))
-layer_top l e = rw e (top_layer l.sheet.now l.line l.left (fit_top l e))
+-- what `write_image` rests on
+pub ruleset image_rules = (layers-room)

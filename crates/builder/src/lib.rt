@@ -24,6 +24,7 @@ const LONGEST: usize = 16777216;
 const FRAME: usize = 40;
 
 /// The image of a sheet into lent output: its length.
+#[tactic(auto, using(crate::proofs::Answered::build_rules))]
 pub fn build(sheet: &[u8], out: &mut [u8]) -> Result<usize, Decline>
     ensures { (result ≡ built sheet.now (length out.old))
         × (out.new ≡ built_out sheet.now out.old) }
@@ -45,6 +46,7 @@ pub fn build(sheet: &[u8], out: &mut [u8]) -> Result<usize, Decline>
 }
 
 // The image of a top layer's lines, in output of just its length.
+#[tactic(auto, using(crate::proofs::Image::image_rules))]
 fn write_image(out: &mut [u8], top: LayerLines)
     requires is_top { top.below ≡ 31 }
     requires out_len { length out.old ≡ end_n 8 (shape (pairs_in top.left (drop top.line top.sheet.now))) + 32 }

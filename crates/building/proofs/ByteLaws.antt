@@ -1,6 +1,7 @@
 -- Bytes and byte order, as the image that is built wants them: what is filled with zeros, and a number of bytes. Assumes nothing.
-use Rattle.std.specs.Prelude.{◌≡◌, ◌∷◌, ◌++◌, ◌-◌, ◌≤◌, ◌<◌, ◌^◌}
-use Rattle.base.specs.Kit.{refl, ap, sym, ◌∙◌, List, [], ℕ, zero, suc, arith, length, get_or, replicate}
+use Rattle.std.proofs.lemmas.Grind.{common_steps}
+use Rattle.std.specs.Prelude.{◌≡◌, ◌∷◌, ◌-◌, ◌≤◌, ◌<◌, ◌^◌}
+use Rattle.base.specs.Kit.{ap, sym, ◌∙◌, List, [], ℕ, zero, suc, arith, length, get_or, replicate}
 use Rattle.key.specs.Ikey.{be, ikey_of}
 use Rattle.key.specs.Part.{padded}
 use Rattle.key.proofs.Bytes.{Bytes, bytes-append}
@@ -30,16 +31,9 @@ unfolding ikey_of
 ikey_of-lt s b = be-lt 8 s b
 
 -- past its end a filled buffer is zero
-past : (s : List ℕ) (n j : ℕ) → length s ≤ j → get_or (s ++ replicate n 0) j 0 ≡ 0
-past [] zero j h = refl
-past [] (suc n) zero h = refl
-past [] (suc n) (suc j) h = past [] n j (omega arith)
-past (a ∷ s) n zero h = absurd (omega arith)
-past (a ∷ s) n (suc j) h = past s n j (omega arith)
-
 pub padded-past : (s : List ℕ) (j : ℕ) → length s ≤ j → get_or (padded s) j 0 ≡ 0
 unfolding padded
-padded-past s j h = past s (256 - length s) j h
+padded-past s j h = grind (arith, common_steps)
 
 pub ikey_of-padded : (s : List ℕ) → ikey_of (padded s) ≡ ikey_of s
 unfolding ikey_of

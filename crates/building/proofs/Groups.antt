@@ -1,5 +1,6 @@
 -- GROUPS. The groups of an ascending list are its pairs of one ikey each, in order; and what the slots of one group are. Assumes that the
 -- layers below are right (the parameter `subs`).
+use Rattle.std.proofs.lemmas.Grind.{common_steps}
 use Rattle.std.specs.Prelude.{◌≢◌, ◌≡◌, ◌∷◌, ◌++◌, ◌+◌, ◌^◌, ◌≤◌, ◌<◌}
 use Rattle.base.specs.Kit.{Bool, true, false, inl, inr, refl, ap, ap₂, sym, ◌∙◌, subst, List, [], map, flatten, append_assoc, append-nil, ℕ, suc, min, arith, leb, eqb, length, take, drop, length-drop, take-append-drop, leb-true, leb-false, eqb-true, eqb-false, ne_eqb}
 use Rattle.base.specs.Pick.{pick}
@@ -247,8 +248,7 @@ module _ (m depth : ℕ) (deep : depth + suc m ≡ 32) (q : List ℕ) (sub : Lis
 
   fields-long : (x : Pair) → Good (suc m) depth x → 8 < length x.key → HasSuffix depth (has_suffix x)
   unfolding has_suffix
-  fields-long x g n =
-      record { long = refl; some = omega (arith, length-drop 8 x.key); fits = omega (arith, length-drop 8 x.key, g.short) }
+  fields-long x g n = grind (arith, common_steps)
 
   own-long : (x : Pair) → Good (suc m) depth x → 8 < length x.key → own_bytes (has_suffix x) ≡ x.key
   unfolding own_bytes has_suffix pick
@@ -335,7 +335,7 @@ module _ (m depth : ℕ) (deep : depth + suc m ≡ 32) (q : List ℕ) (sub : Lis
 
   empty_ok : (k : ℕ) → PieceOk m depth k q [] none
   unfolding PlainN FieldsN AscendN ShortPathsN InRangeN pairs_n values_n
-  empty_ok k = record { plain = tt; fields = tt; ascend = tt; paths = tt; range = tt; pairs = refl; count = refl }
+  empty_ok k = grind (arith, common_steps)
 
   leaves-behind : (x : Pair) (r : Slots) → leaves_s (value (ends_here x) r) ≡ leaves_s r
   unfolding leaves_n

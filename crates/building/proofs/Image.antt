@@ -1,13 +1,13 @@
 -- THE IMAGE OF A TREE: its length and trailer, and that the tree it holds is the one that was written. Assumes that the tree can be written
 -- (PlainN), lies in post-order from byte 8 on, and that the image is no longer than 01 allows.
 use Rattle.std.specs.Prelude.{◌≡◌, ◌∷◌, ◌+◌, ◌%◌, ◌-◌, ◌^◌, ◌≤◌, ◌<◌}
-use Rattle.base.specs.Kit.{refl, sym, ◌∙◌, List, [], flatten, ℕ, mod-eq_of_lt, arith, eqb, length, get_or, take, replicate, length-append, length-replicate}
-use Rattle.base.proofs.Choice.{pick_ind}
+use Rattle.base.specs.Kit.{refl, sym, ◌∙◌, List, [], flatten, ℕ, mod-eq_of_lt, arith, length, get_or, take, replicate, length-append, length-replicate}
 use Rattle.node.specs.Le.{u64_at}
 use Rattle.node.specs.Layout.{root_offset, key_count, stated_length, edition}
-use Rattle.layering.specs.Tree.{Fields, Node, leaf, internode, beyond, Kids, last, more, Slots, none, value, layer, layer_at, tree_of}
+use Rattle.layering.specs.Tree.{Node, leaf, internode, beyond, Kids, last, more, Slots, none, value, layer, layer_at, tree_of}
 use Rattle.layering.specs.Keys.{values_n, values_k, values_s}
 use Rattle.layering.specs.Accepted.{room, end_n, end_k, end_s, InPostOrderN}
+use Rattle.verify.proofs.Places.{aligned_n}
 use Rattle.building.specs.Shape.{size_s}
 use Rattle.building.specs.Build.{le_bytes, offset_n, bytes_n, image_of}
 use Rattle.building.proofs.Stands.{Stands, le_bytes-length, stands-le, stands_self}
@@ -17,28 +17,6 @@ use Rattle.building.proofs.Placed.{grow_k, grow_s}
 use Rattle.building.proofs.Readback.{fits_in, read_n}
 
 ruleset widths = (length-append, le_bytes-length, length-replicate)
-
--- PLACES are multiples of 8
-room-8 : (s : Fields) → room s % 8 ≡ 0
-unfolding room
-room-8 s = pick_ind (λ (x : ℕ). x % 8 ≡ 0) (eqb s.keylenx 64) (λ t. omega arith) (λ t. refl)
-
-mutual
-  unfolding end_n
-
-  end_8_n : (n : Node) (at : ℕ) → at % 8 ≡ 0 → end_n at n % 8 ≡ 0
-  end_8_n (leaf h s) at e = omega (arith, end_8_s s at e)
-  end_8_n (internode h k) at e = omega (arith, end_8_k k at e)
-  end_8_n beyond at e = e
-
-  end_8_k : (k : Kids) (at : ℕ) → at % 8 ≡ 0 → end_k at k % 8 ≡ 0
-  end_8_k (last n) at e = end_8_n n at e
-  end_8_k (more n x k) at e = end_8_k k (end_n at n) (end_8_n n at e)
-
-  end_8_s : (s : Slots) (at : ℕ) → at % 8 ≡ 0 → end_s at s % 8 ≡ 0
-  end_8_s none at e = e
-  end_8_s (value s r) at e = end_8_s r (at + room s) (omega (arith, room-8 s))
-  end_8_s (layer s n r) at e = end_8_s r (end_n at n) (end_8_n n at e)
 
 -- a tree has a leaf
 mutual
@@ -121,7 +99,7 @@ module _ (n : Node) (c : ℕ) (p : PlainN 31 12 n) (o : InPostOrderN 8 n) (short
   image-long = omega (arith, image_end, one_leaf_n n 31 12 8 p)
 
   pub image-8 : length image % 8 ≡ 0
-  image-8 = omega (arith, image_end, end_8_n n 8 refl)
+  image-8 = omega (arith, image_end, aligned_n n 8 refl)
 
   -- THE TREE THAT THE IMAGE HOLDS
   pub tree_is : tree_of image ≡ n

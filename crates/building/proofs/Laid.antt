@@ -1,7 +1,7 @@
 -- A LEAF, written part by part. Laying parts one behind the other is laying them all; what is then in the output, with the record behind it
 -- and the previous leaf's `next` set, is the leaf written. Assumes that the slots can be written (PlainS), and that there is room.
 use Rattle.std.specs.Prelude.{◌≡◌, ◌∷◌, ◌++◌, ◌+◌, ◌≤◌, ◌^◌}
-use Rattle.base.specs.Kit.{refl, ap, sym, ◌∙◌, List, [], append_assoc, append-nil, ℕ, suc, arith, length, paste-zero, length-append}
+use Rattle.base.specs.Kit.{refl, ap, sym, ◌∙◌, List, [], append_assoc, append-nil, ℕ, arith, length, paste-zero, length-append}
 use Rattle.sheet.proofs.Paste.{paste-append}
 use Rattle.layering.specs.Tree.{Fields, Slots, none, value, layer}
 use Rattle.layering.specs.Accepted.{room, end_n, end_s}
@@ -11,7 +11,7 @@ use Rattle.building.specs.CodeWritten.{put, linked, written}
 use Rattle.building.specs.CodeLaid.{Laid, laid_value, laid_layer, laid}
 use Rattle.building.proofs.Plain.{PlainN, PlainS, fields_s-length, leaf_bytes-length, suffix_bytes-length, length_n, length_s}
 use Rattle.building.proofs.Puts.{put-length}
-use Rattle.building.proofs.Placed.{size_n_placed, size_s-bytes, grow_s}
+use Rattle.building.proofs.Placed.{size_n_placed, size_s-bytes, grow_s, size_s_placed}
 
 pub laid_join : (l : Laid) (a b : Slots) → laid l (join_s a b) ≡ laid (laid l a) b
 unfolding laid join_s
@@ -31,13 +31,6 @@ unfolding laid laid_value laid_layer size_s
 laid-count l none = omega arith
 laid-count l (value s r) = laid-count (laid_value l s) r ∙ simp length-append (omega arith)
 laid-count l (layer s n r) = laid-count (laid_layer l s n) r ∙ simp length-append (omega arith)
-
--- places do not change how many slots there are
-placed_size : (s : Slots) (at : ℕ) → size_s (placed_s at s) ≡ size_s s
-unfolding size_s placed_n
-placed_size none at = refl
-placed_size (value s r) at = ap suc (placed_size r (at + room s))
-placed_size (layer s n r) at = ap suc (placed_size r (end_n at n))
 
 -- ALL PARTS AT ONCE
 same-suffix : (at : ℕ) (s : Fields) → suffix_bytes (start_at at s) ≡ suffix_bytes s
@@ -83,7 +76,7 @@ leaf-written s m out at prev p h =
     let a : List ℕ = bytes_s (placed_s at s) in
     let e : laid (record { out = out; at = at; fields = [] }) s ≡ record { out = put out at a; at = end_s at s; fields = fs } =
     laid-whole s m (record { out = out; at = at; fields = [] }) p (omega arith) in
-    let n : length fs ≡ size_s s = fields_s-length (placed_s at s) ∙ placed_size s at in
+    let n : length fs ≡ size_s s = fields_s-length (placed_s at s) ∙ size_s_placed s at in
     let al : at + length a ≡ end_s at s = ap (λ (y : ℕ). at + y) (size_s-bytes s at) ∙ length_s s m at p in
     let b : List ℕ = leaf_bytes (record { offset = end_s at s; version = 2 ^ 31; permutation = identity + size_s s; next = 0 }) fs in
     let bl : length b ≡ 400 = leaf_bytes-length (record { offset = end_s at s; version = 2 ^ 31; permutation = identity + size_s s; next = 0 }) fs in

@@ -1,5 +1,6 @@
 -- LAYERS. Proved: the layer that is built of an ascending list of pairs is right in every point of `LayerOk`. Assumes that its keys fit
 -- the layers left, and that it has no more leaves than an image holds.
+use Rattle.std.proofs.lemmas.Grind.{common_steps}
 use Rattle.std.specs.Prelude.{◌≡◌, ◌∷◌, ◌++◌, ◌+◌, ◌^◌, ◌≤◌, ◌<◌}
 use Rattle.base.specs.Kit.{refl, ap, ap₂, sym, ◌∙◌, subst, List, [], map, flatten, ℕ, zero, suc, arith, length, length-append, length-map}
 use Rattle.base.specs.Pick.{pick}
@@ -135,14 +136,7 @@ module _ (m depth : ℕ) (q : List ℕ) where
 
     one_more_lem : (lo : ℕ) (g : List Pair) (gs : List (List Pair)) → lo ≤ ikey_g g → One g (group_slots sub g) → Pieces (suc (ikey_g g)) gs → Pieces lo (g ∷ gs)
     unfolding flatten
-    one_more_lem lo g gs h o p =
-        let s : Slots = group_slots sub g in
-        record {
-          ok = ((o.ok.plain, o.ok.fields, o.ok.paths, o.ok.count), p.ok);
-          few = (o.few, p.few);
-          chain = (rw o.first h, rw o.first (o.ok.ascend, o.ok.range), o.some, rw o.first p.chain);
-          pairs = ap₂ (λ (a b : List Pair). a ++ b) o.ok.pairs p.pairs ∙ sym (map-append g (flatten gs));
-        }
+    one_more_lem lo g gs h o p = grind (arith, common_steps)
 
     later : (k : ℕ) (gs : List (List Pair)) → k < 2 ^ 64 → Later k gs → Ascending (flatten gs) → All (Good (suc m) depth) (flatten gs)
         → leaves_l (map (group_slots sub) gs) ≤ limit → Pieces (suc k) gs

@@ -20,14 +20,14 @@ leaf_by-leaf room (g ∷ gs) e = go (leb (size_s g) room) (leaf_by-leaf (room - 
     go true h = ap (onto_s g) h
     go false h = rw (le-leb (size_s g) 15 e.0) refl
 
-left-few : (room : ℕ) (gs : List Slots) → Each Few gs → Each Few (left room gs)
+pub left-each : (P : Slots → Type 0) (r : ℕ) (gs : List Slots) → Each P gs → Each P (left r gs)
 unfolding left
-left-few room [] e = tt
-left-few room (g ∷ gs) e = pick_ind (Each Few) (leb (size_s g) room) (λ t. left-few (room - size_s g) gs e.1) (λ t. e)
+left-each P r [] e = tt
+left-each P r (g ∷ gs) e = pick_ind (Each P) (leb (size_s g) r) (λ t. left-each P (r - size_s g) gs e.1) (λ t. e)
 
 pub after_drops : (k : ℕ) (gs : List Slots) → Each Few gs → leaves_behind (after k gs) ≡ drop k (leaves_behind gs)
 unfolding after leaves_behind left
 after_drops zero gs e = refl
 after_drops (suc k) [] e = after_drops k [] tt ∙ drop-nil {A = Slots} k
 after_drops (suc k) (g ∷ gs) e =
-    after_drops k (left 15 (g ∷ gs)) (left-few 15 (g ∷ gs) e) ∙ ap (drop (suc k)) (sym (leaf_by-leaf 15 (g ∷ gs) e))
+    after_drops k (left 15 (g ∷ gs)) (left-each Few 15 (g ∷ gs) e) ∙ ap (drop (suc k)) (sym (leaf_by-leaf 15 (g ∷ gs) e))

@@ -11,6 +11,7 @@ use Rattle.building.specs.CodeOrder.{filled, left, leaves_behind, after, leaves_
 use Rattle.building.proofs.Plain.{PlainN, PlainS}
 use Rattle.building.proofs.Fill.{Each, Few, fill-some, fill_leaves, fill-each, fill-sized, join_plain, Sized}
 use Rattle.building.proofs.Levels.{root_leaves}
+use Rattle.building.proofs.LeafByLeaf.{left-each}
 use Rattle.building.specs.CodeGood.{Good}
 use Rattle.building.proofs.Layers.{SlotsOk, pieces, leaves_of_lem, layer_ok}
 
@@ -29,11 +30,6 @@ unfolding filled PlainN
 filled_plain m r [] e = tt
 filled_plain m r (g ∷ gs) e =
     pick_ind (PlainS m) (leb (size_s g) r) (λ t. join_plain m g (filled (r - size_s g) gs) e.0 (filled_plain m (r - size_s g) gs e.1)) (λ t. tt)
-
-pub left-each : (P : Slots → Type 0) (r : ℕ) (gs : List Slots) → Each P gs → Each P (left r gs)
-unfolding left
-left-each P r [] e = tt
-left-each P r (g ∷ gs) e = pick_ind (Each P) (leb (size_s g) r) (λ t. left-each P (r - size_s g) gs e.1) (λ t. e)
 
 pub after-each : (P : Slots → Type 0) (k : ℕ) (gs : List Slots) → Each P gs → Each P (after k gs)
 unfolding after

@@ -1,7 +1,8 @@
 -- THE NEXT LEAF, written later. A subtree's bytes with the leaf behind it at `next` are those with 0 there, and `next` written into its last
 -- leaf. So code may write a leaf before it knows where the next one stands. Assumes that the subtree can be written (PlainN).
+use Rattle.std.proofs.lemmas.Grind.{common_steps}
 use Rattle.std.specs.Prelude.{◌≡◌, ◌∷◌, ◌++◌, ◌+◌, ◌≤◌}
-use Rattle.base.specs.Kit.{refl, ap, ap₂, sym, ◌∙◌, List, [], map, flatten, append_assoc, append-nil, ℕ, arith, length, drop, replicate, length-append, drop_of_length-le, drop-append-add, take-append_seam, take-length}
+use Rattle.base.specs.Kit.{refl, ap, ap₂, sym, ◌∙◌, List, [], map, flatten, append_assoc, append-nil, ℕ, arith, length, replicate, length-append}
 use Rattle.layering.specs.Tree.{Fields, LeafHead, InternodeHead, Node, leaf, internode, beyond, Kids, last, more}
 use Rattle.layering.specs.Accepted.{end_n, end_k, end_s}
 use Rattle.building.specs.Build.{first_leaf_k, placed_n, placed_k, placed_s, le_bytes, words, fields_s, mask, suffix_word, leaf_bytes, offset_n, children_k, separators_k, internode_bytes, bytes_n, bytes_k, bytes_s}
@@ -14,9 +15,7 @@ use Rattle.building.proofs.Puts.{put_right, put-left}
 
 -- the last eight bytes of a leaf
 put_end : (a b w : List ℕ) (i : ℕ) → length a ≡ i → length b ≡ length w → put (a ++ b) i w ≡ a ++ w
-put_end a b w i e f =
-    let g : drop (length a + length w) (a ++ b) ≡ [] = drop-append-add a b (length w) ∙ drop_of_length-le b {i = length w} (omega arith) in
-    rw (← e, take-append_seam a b, take-length w, g) (append-nil (a ++ w))
+put_end a b w i e f = grind (arith, common_steps)
 
 leaf_front : LeafHead → List Fields → List ℕ
 leaf_front h l =

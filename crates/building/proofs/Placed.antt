@@ -1,7 +1,8 @@
 -- What setting the places of a tree does: the records lie in post-order, the leaves are linked, what can be written still can; and what it
 -- leaves as it was: pairs, numbers, paths, order, ranges and fields. Assumes of the tree only that it can be written (PlainN).
+use Rattle.std.proofs.lemmas.Grind.{common_steps}
 use Rattle.std.specs.Prelude.{◌⊎◌, ◌≡◌, ◌∷◌, ◌++◌, ◌+◌, ◌*◌, ◌^◌, ◌≤◌, ◌<◌}
-use Rattle.base.specs.Kit.{inl, inr, refl, ap, ap₂, sym, ◌∙◌, List, ℕ, suc, arith, length, length-append, eq-eqb, ne_eqb}
+use Rattle.base.specs.Kit.{inl, inr, refl, ap, ap₂, sym, ◌∙◌, List, ℕ, suc, arith, length, length-append, eq-eqb}
 use Rattle.base.specs.Pick.{pick}
 use Rattle.key.specs.Ikey.{ikey_bytes}
 use Rattle.layering.specs.Tree.{Fields, Node, leaf, internode, beyond, Kids, last, more, Slots, none, value, layer}
@@ -226,7 +227,7 @@ mutual
   fields_ss (layer s n r) depth at a = (a.0, fields_n n (depth + 1) at 0 a.1, fields_ss r depth (end_n at n) a.2)
 
 -- WHAT CAN BE WRITTEN STILL CAN
-size_s_placed : (s : Slots) (at : ℕ) → size_s (placed_s at s) ≡ size_s s
+pub size_s_placed : (s : Slots) (at : ℕ) → size_s (placed_s at s) ≡ size_s s
 unfolding size_s placed_n
 size_s_placed none at = refl
 size_s_placed (value s r) at = ap suc (size_s_placed r (at + room s))
@@ -245,16 +246,7 @@ offset_placed beyond at next = refl
 
 plain-start : (s : Fields) (at : ℕ) → PlainV s → PlainV (start_at at s)
 unfolding start_at pick
-plain-start s at v =
-    record {
-      ikey = v.ikey;
-      keylenx = v.keylenx;
-      value = v.value;
-      whole = v.whole;
-      short = v.short;
-      bytes = v.bytes;
-      bare = λ d. (rw (ne_eqb s.keylenx 64 d) refl, (v.bare d).1);
-    }
+plain-start s at v = grind (arith, common_steps)
 
 plain_root : (s : Fields) (n : Node) (at next : ℕ) → PlainL s n → PlainL (root_at (stands_at at n) s) (placed_n at next n)
 unfolding root_at

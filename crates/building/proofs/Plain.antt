@@ -1,7 +1,8 @@
 -- Trees that can be written: their numbers fit, and their records are within 01's limits. And how many bytes they take.
 -- Assumes nothing.
-use Rattle.std.specs.Prelude.{◌≡◌, ◌++◌, ◌+◌, ◌*◌, ◌/◌, ◌-◌, ◌^◌, ◌≤◌, ◌<◌}
-use Rattle.base.specs.Kit.{Bool, true, false, refl, ap, List, [], flatten, ℕ, suc, arith, eqb, length, replicate, length-append, length-replicate}
+use Rattle.std.proofs.lemmas.Grind.{common_steps}
+use Rattle.std.specs.Prelude.{◌≡◌, ◌+◌, ◌^◌, ◌≤◌, ◌<◌}
+use Rattle.base.specs.Kit.{refl, ap, List, [], flatten, ℕ, suc, arith, length, length-append, length-replicate}
 use Rattle.base.specs.Pick.{pick}
 use Rattle.key.proofs.Bytes.{Bytes}
 use Rattle.layering.specs.Tree.{Fields, LeafHead, InternodeHead, Node, leaf, internode, beyond, Kids, last, more, Slots, none, value, layer}
@@ -65,12 +66,7 @@ internode_bytes-length h k = simp widths
 
 pub suffix_bytes-length : (s : Fields) → PlainV s → length (suffix_bytes s) ≡ room s
 unfolding suffix_bytes room pick
-suffix_bytes-length s v = go (eqb s.keylenx 64) refl
-  where
-    go : (t : Bool) → eqb s.keylenx 64 ≡ t
-        → length (pick t (s.suffix ++ replicate (pick (eqb s.keylenx 64) ((s.len + 7) / 8 * 8) 0 - length s.suffix) 0) []) ≡ pick t ((s.len + 7) / 8 * 8) 0
-    go true e = rw e (simp (length-append, length-replicate) (omega (arith, v.whole)))
-    go false e = refl
+suffix_bytes-length s v = grind (arith, common_steps)
 
 mutual
   unfolding PlainN bytes_n end_n

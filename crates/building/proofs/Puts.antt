@@ -1,7 +1,8 @@
 -- PIECES IN A BUFFER: two that do not meet may be written in either order; one within another may be written into it before; two behind
 -- one another are one. Assumes nothing.
+use Rattle.std.proofs.lemmas.Grind.{common_steps}
 use Rattle.std.specs.Prelude.{◌≡◌, ◌++◌, ◌+◌, ◌≤◌}
-use Rattle.base.specs.Kit.{ap, ap₂, sym, ◌∙◌, List, append_assoc, ℕ, add-zero, le_refl, arith, length, take, drop, take-append-drop, take-append-add, drop-append-add, take-append-le, drop-append-le, take-length, length-take-le, length-paste}
+use Rattle.base.specs.Kit.{ap, ap₂, sym, ◌∙◌, List, append_assoc, ℕ, add-zero, le_refl, arith, length, take, drop, take-append-drop, take-append-add, drop-append-add, take-length, length-take-le, length-paste}
 use Rattle.building.specs.CodeWritten.{put}
 
 pub put-length : (d s : List ℕ) (at : ℕ) → at + length s ≤ length d → length (put d at s) ≡ length d
@@ -16,8 +17,7 @@ put_right a b w i =
     ∙ ap (λ (r : List ℕ). a ++ r) (sym (append_assoc (take i b) (take (length w) w) (drop (i + length w) b))))
 
 pub put-left : (a b w : List ℕ) (i : ℕ) → i + length w ≤ length a → put (a ++ b) i w ≡ put a i w ++ b
-put-left a b w i h =
-    rw (take-append-le i a b (omega arith), drop-append-le (i + length w) a b h) (sym (append_assoc (take i a ++ take (length w) w) (drop (i + length w) a) b))
+put-left a b w i h = grind (arith, common_steps)
 
 -- the same where the first part's length is known as a number
 right-at : (a b w : List ℕ) (n i : ℕ) → length a ≡ n → put (a ++ b) (n + i) w ≡ a ++ put b i w

@@ -1,7 +1,8 @@
 -- READING BACK. Proved: where the bytes of a tree stand in an image, the tree at its offset is that tree. Assumes that the tree can be
 -- written (PlainN), lies in post-order, and that the image is no longer than 01 allows.
+use Rattle.std.proofs.lemmas.Grind.{common_steps}
 use Rattle.std.specs.Prelude.{◌≡◌, ◌∷◌, ◌++◌, ◌+◌, ◌%◌, ◌-◌, ◌^◌, ◌≤◌, ◌<◌}
-use Rattle.base.specs.Kit.{Bool, true, false, refl, ap, ap₂, sym, ◌∙◌, List, [], ℕ, zero, suc, mod-eq_of_lt, arith, eqb, length, get_or, replicate, length-append, get_or_at, append_snoc, eqb-true, eqb-false, le-leb, lt-leb}
+use Rattle.base.specs.Kit.{Bool, true, false, refl, ap, ap₂, sym, ◌∙◌, List, [], ℕ, zero, suc, arith, eqb, length, get_or, replicate, length-append, append_snoc, eqb-true, eqb-false, le-leb, lt-leb}
 use Rattle.base.specs.Pick.{pick}
 use Rattle.key.specs.Part.{part}
 use Rattle.node.specs.Version.{bit}
@@ -24,7 +25,7 @@ longer front a = length-append front (a ∷ [])
 
 taken : (front : List ℕ) (a : ℕ) (rest l : List ℕ) (b : ℕ) → front ++ a ∷ rest ≡ l → a < b → (x i : ℕ) → length front ≡ i
     → x ≡ get_or l i 0 % b → x ≡ a
-taken front a rest l b e s x i j q = q ∙ ap (λ (y : ℕ). y % b) (ap (λ (t : List ℕ). get_or t i 0) (sym e) ∙ get_or_at front a rest 0 i j) ∙ mod-eq_of_lt s
+taken front a rest l b e s x i j q = grind (arith, common_steps)
 
 -- what the kind of a record decides
 is_leaf_lem : (sub : ℕ → Node) (image : List ℕ) (k at : ℕ) → bit (version_at image at) 31 ≡ true → node_at sub image k at ≡ leaf_at sub image at

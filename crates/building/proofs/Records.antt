@@ -1,4 +1,5 @@
 -- What is read of a record that was written: each field of a leaf and of an internode. Assumes nothing.
+use Rattle.std.proofs.lemmas.Grind.{common_steps}
 use Rattle.std.specs.Prelude.{◌≡◌, ◌∷◌, ◌++◌, ◌+◌, ◌*◌, ◌%◌, ◌^◌, ◌≤◌, ◌<◌}
 use Rattle.base.specs.Kit.{false, refl, ap, sym, ◌∙◌, List, [], map, flatten, ℕ, zero, suc, mod-eq_of_lt, arith, length, get_or, take, replicate, length-append, length-replicate}
 use Rattle.key.specs.Part.{part}
@@ -102,9 +103,7 @@ module _ (image : List ℕ) (at : ℕ) (h : LeafHead) (l : List Fields) (st : St
 
     -- a field by its word
     of_word : (g : Fields → ℕ) (x b : ℕ) → x ≡ get_or (map g l) (length before) 0 % b → g f < b → x ≡ g f
-    of_word g x b q k =
-        q ∙ ap (λ (y : ℕ). y % b) (ap (λ (t : List Fields). get_or (map g t) (length before) 0) (sym e) ∙ got g before f rest 0)
-        ∙ mod-eq_of_lt k
+    of_word g x b q k = grind (arith, common_steps)
 
     slot_word : u64_at image (at + 272 + 8 * length before) ≡ suffix_word f
     unfolding suffix_word

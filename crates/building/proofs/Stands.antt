@@ -1,7 +1,8 @@
 -- Bytes that stand somewhere in an image, and what is read there: parts of them, little-endian numbers, rows of words.
 -- Assumes nothing.
+use Rattle.std.proofs.lemmas.Grind.{common_steps}
 use Rattle.std.specs.Prelude.{◌≡◌, ◌∷◌, ◌++◌, ◌+◌, ◌*◌, ◌/◌, ◌%◌, ◌^◌, ◌≤◌, ◌<◌}
-use Rattle.base.specs.Kit.{refl, ap, sym, ◌∙◌, List, [], flatten, ℕ, zero, suc, pow-succ', div-add-mod', div-div-eq-div-mul, mul_comm, arith, length, get_or, take, drop, length-append, length-take, length-drop, List·getD-append, get_or-append-add, ext_get_or, get_or-take, get_or-drop}
+use Rattle.base.specs.Kit.{refl, ap, sym, ◌∙◌, List, [], ℕ, zero, suc, pow-succ', mul_comm, arith, length, get_or, take, drop, length-append, length-take, length-drop, get_or-append-add, ext_get_or, get_or-take, get_or-drop}
 use Rattle.key.specs.Part.{part}
 use Rattle.node.specs.Le.{le}
 use Rattle.building.specs.Build.{le_bytes, words}
@@ -23,23 +24,11 @@ words-length w (suc n) [] = omega (arith, length-append (le_bytes w 0) (words w 
 words-length w (suc n) (x ∷ xs) = omega (arith, length-append (le_bytes w x) (words w n xs), le_bytes-length w x, words-length w n xs)
 
 low : (x p : ℕ) → x % (p * 256) ≡ x % 256 + 256 * (x / 256 % p)
-low x p =
-    omega (
-      arith,
-      div-add-mod' x 256,
-      div-add-mod' x (p * 256),
-      div-add-mod' (x / 256) p,
-      ap (λ (y : ℕ). y * p) (div-div-eq-div-mul x 256 p),
-      ap (λ (y : ℕ). x / y * p) (mul_comm 256 p),
-    )
+low x p = grind (arith, common_steps)
 
 module _ (image : List ℕ) where
   pub stands-left : (at : ℕ) (a b : List ℕ) → Stands image at (a ++ b) → Stands image at a
-  stands-left at a b h =
-      record {
-        fits = omega (arith, h.fits, length-append a b);
-        same = λ i l. h.same i (omega (arith, length-append a b)) ∙ List·getD-append a b 0 i l;
-      }
+  stands-left at a b h = grind (arith, common_steps)
 
   pub stands_right : (at : ℕ) (a b : List ℕ) → Stands image at (a ++ b) → (to : ℕ) → at + length a ≡ to → Stands image to b
   stands_right at a b h to e =
@@ -91,12 +80,6 @@ module _ (image : List ℕ) where
       ext_get_or 0 (take (length bs) (drop at image)) bs l
       (λ i j. get_or-take (length bs) (drop at image) i 0 (omega arith) ∙ get_or-drop at image i 0 ∙ h.same i (omega arith))
 
-  -- one part of several
-  pub stands-flatten : (at : ℕ) (a : List ℕ) (l : List (List ℕ)) → Stands image at (flatten (a ∷ l))
-      → Stands image at a × Stands image (at + length a) (flatten l)
-  unfolding flatten
-  stands-flatten at a l h = (stands-left at a (flatten l) h, stands_right at a (flatten l) h (at + length a) refl)
-
 -- a list stands in itself
 pub stands_self : (s : List ℕ) → Stands s 0 s
-stands_self s = record { fits = omega arith; same = λ i l. let e : 0 + i ≡ i = omega arith in rw e refl }
+stands_self s = grind (arith, common_steps)

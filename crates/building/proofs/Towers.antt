@@ -1,10 +1,12 @@
 -- TOWERS: subtrees of one height over some nodes can be written where the nodes can; how many there are, where they end, and the height of a
 -- layer's root. The laws about what can be written assume it of the nodes; the others assume nothing of them.
+use Rattle.std.proofs.lemmas.Grind.{common_steps}
 use Rattle.std.specs.Prelude.{◌≡◌, ◌⊎◌, ◌∷◌, ◌+◌, ◌*◌, ◌^◌, ◌≤◌, ◌<◌}
-use Rattle.base.specs.Kit.{refl, ap, ◌∙◌, inl, inr, List, [], ℕ, zero, suc, add-zero, zero-add, one-le-pow, eq-or-lt_of_le, arith, length, drop, drop-drop, dec_le}
-use Rattle.layering.specs.Tree.{Node, leaf, internode, beyond, Kids, last, more, Slots, none, value, layer}
-use Rattle.layering.specs.Keys.{leaves_n, leaves_k, leaves_s}
-use Rattle.layering.specs.Accepted.{room, end_n, end_k, end_s}
+use Rattle.base.specs.Kit.{refl, inl, inr, List, [], ℕ, zero, suc, add-zero, zero-add, one-le-pow, eq-or-lt_of_le, arith, length, drop, dec_le}
+use Rattle.layering.specs.Tree.{Node}
+use Rattle.layering.specs.Accepted.{end_n}
+-- each leaf takes 400 bytes
+pub use Rattle.layering.proofs.Size.{leaves_fit_n as leaves_end}
 use Rattle.building.specs.Shape.{internode_of, root_over}
 use Rattle.building.specs.CodeOrder.{head_n, siblings, tower}
 use Rattle.building.specs.CodeSiblings.{end_l}
@@ -27,9 +29,7 @@ siblings-few t k (suc i) [] = omega arith
 siblings-few t k (suc i) (n ∷ ns) = omega (arith, siblings-few t k i (drop k (n ∷ ns)))
 
 pub drop-tower : (h : ℕ) (ns : List Node) → drop (15 * 16 ^ h) (drop (16 ^ h) ns) ≡ drop (16 ^ suc h) ns
-drop-tower h ns =
-    let e : 16 ^ h + 15 * 16 ^ h ≡ 16 ^ suc h = omega arith in
-    drop-drop (15 * 16 ^ h) (16 ^ h) ns ∙ ap (λ (k : ℕ). drop k ns) e
+drop-tower h ns = grind (arith, common_steps)
 
 -- WHAT CAN BE WRITTEN
 pub each-drop : {A : Type 0} (P : A → Type 0) (k : ℕ) (l : List A) → Each P l → Each P (drop k l)
@@ -75,23 +75,6 @@ tower-grows h (suc k) ns at l = go (eq-or-lt_of_le l) (tower-grows h k ns at)
     go (inl e) f = rw e (omega arith)
     go (inr o) f =
         omega (arith, f (omega arith), tower_end k ns at, grow_l (siblings (tower k) (16 ^ k) 15 (drop (16 ^ k) ns)) (end_n at (tower k ns)))
-
-mutual
-  unfolding end_n leaves_n
-
-  pub leaves_end : (n : Node) (at : ℕ) → at + 400 * leaves_n n ≤ end_n at n
-  leaves_end (leaf h s) at = omega (arith, leaves-end_s s at)
-  leaves_end (internode h k) at = omega (arith, leaves-end_k k at)
-  leaves_end beyond at = omega arith
-
-  pub leaves-end_k : (k : Kids) (at : ℕ) → at + 400 * leaves_k k ≤ end_k at k
-  leaves-end_k (last n) at = leaves_end n at
-  leaves-end_k (more n x k) at = omega (arith, leaves_end n at, leaves-end_k k (end_n at n))
-
-  pub leaves-end_s : (s : Slots) (at : ℕ) → at + 400 * leaves_s s ≤ end_s at s
-  leaves-end_s none at = omega arith
-  leaves-end_s (value s r) at = omega (arith, leaves-end_s r (at + room s))
-  leaves-end_s (layer s n r) at = omega (arith, leaves_end n at, leaves-end_s r (end_n at n))
 
 -- THE HEIGHT
 pub low : (h : ℕ) → 16 ^ h < 41944 → h ≤ 3

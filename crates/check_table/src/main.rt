@@ -4,14 +4,19 @@
 
 use base::Decline;
 use node::trailer;
+use requests::line;
 
 // What the length test says of a length.
 fn length(rt: &impl Print, n: usize) {
-    let _ = if trailer::is_length_ok(n) {
-        println!(rt; "length {n} passes")
+    if trailer::is_length_ok(n) {
+        line(rt, b"", format_args!("length {n} passes"));
     } else {
-        println!(rt; "length {n} declined {}", Decline::ImageLength)
-    };
+        line(
+            rt,
+            b"",
+            format_args!("length {n} declined {}", Decline::ImageLength),
+        );
+    }
 }
 
 // The longest length, and the next.

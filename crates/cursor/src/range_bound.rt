@@ -6,11 +6,11 @@ ghost use Rattle.cursor.specs.RangeBound.{side_of, tested, contains, bound_of};
 
 use std::cmp::Ordering;
 
-// Where a walk begins: above its cursor, or from it on.
+// Where a walk begins: above its cursor, or from it on. Its number is that of a walk's record.
 #[derive(Clone, Copy, Debug, PartialEq, Eq)]
 pub enum StartMode {
-    Above,
-    From,
+    Above = 0,
+    From = 1,
 }
 
 // A bound as a walk keeps it: kind 0 unbounded, 1 included, 2 excluded, and the first `len` bytes of `key`. The key is an array with a

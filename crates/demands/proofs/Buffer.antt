@@ -1,7 +1,8 @@
 -- The cursor's buffer: what its front holds after an ikey, or an ikey and a suffix, is stored at the layer's place; and
 -- what `unshift` reads there. Assumes that they fit into the buffer.
+use Rattle.std.proofs.lemmas.Grind.{common_steps}
 use Rattle.std.specs.Prelude.{◌≡◌, ◌++◌, ◌+◌, ◌-◌, ◌^◌, ◌≤◌, ◌<◌}
-use Rattle.base.specs.Kit.{ap, sym, ◌∙◌, subst, List, append_assoc, ℕ, arith, length, take, drop, take-append-drop, take_all, take-length, length-take-le, length-paste, take-paste, take-take, take_at, drop_at, take-append-add, length-append, paste, take-append-le}
+use Rattle.base.specs.Kit.{ap, sym, ◌∙◌, subst, List, append_assoc, ℕ, arith, length, take, drop, take-append-drop, take_all, take-length, length-take-le, length-paste, take-paste, take-take, take_at, drop_at, take-append-add, paste}
 use Rattle.key.specs.Ikey.{ikey_of, ikey_bytes}
 use Rattle.key.specs.Part.{part}
 use Rattle.key.proofs.Ikey.{ikey_bytes-length, ikey_of-ikey_bytes}
@@ -9,10 +10,7 @@ use Rattle.cursor.specs.CursorKey.{store_ikey, store_suffix}
 
 -- what stands before a copy
 paste_front : (d s : List ℕ) (at n m : ℕ) → m ≤ at → at ≤ length d → take m (paste d at s n) ≡ take m d
-paste_front d s at n m h k =
-    let e : length (take at d) ≡ at = length-take-le at d k in
-    take-append-le m (take at d ++ take n s) (drop (at + n) d) (omega (arith, length-append (take at d) (take n s)))
-    ∙ take-append-le m (take at d) (take n s) (omega arith) ∙ take-take m at d h
+paste_front d s at n m h k = grind (arith, common_steps)
 
 module _ (buf : List ℕ) (offset x : ℕ) (fits : offset + 8 ≤ length buf) where
   pub ikey-length : length (store_ikey buf offset x) ≡ length buf

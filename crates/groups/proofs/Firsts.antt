@@ -7,11 +7,11 @@ use Rattle.building.specs.Shape.{long_slots, layer_of}
 use Rattle.groups.specs.declared.Tally.{Tally}
 use Rattle.groups.specs.declared.LayerLines.{LayerLines}
 use Rattle.groups.specs.declared.FirstGroup.{FirstGroup}
-use Rattle.groups.specs.CodeGroups.{lines_at, LongsFit, slots_at}
+use Rattle.groups.specs.CodeGroups.{lines_at, Fit, LongsFit, slots_at}
 use Rattle.groups.specs.CodeLines.{slots_in, first_slots}
-use Rattle.groups.proofs.GroupLaws.{group-step, fit-longs}
+use Rattle.groups.proofs.GroupLaws.{group-step, fit-longs, fit-rest}
 use Rattle.groups.specs.CodeSize.{capped, counted}
-use Rattle.groups.proofs.SizeLaws.{Tallied, slots-few, tally_turn, long-more}
+use Rattle.groups.proofs.SizeLaws.{Tallied, capped_most, all_tallied, tallied-none, layer_tallied, long-none, next_eight, long-one, long_line, slots-few, tally_turn, long-more}
 
 module _ (f : FirstGroup) where
   pub first_longs : LongsFit f.lines.sheet.now f.lines.below f.group.long_line f.group.longs
@@ -34,6 +34,9 @@ module _ (f : FirstGroup) where
   abbrev pub RestOf : LayerLines → Type 0
   RestOf r =
       (r.sheet ≡ f.lines.sheet) × (r.below ≡ f.lines.below) × (r.line ≡ f.group.behind) × (r.left ≡ f.lines.left - (f.group.shorts + f.group.longs))
+
+  pub rest_fit : Fit f.lines.sheet.now f.lines.below f.group.behind (f.lines.left - (f.group.shorts + f.group.longs))
+  rest_fit = fit-rest _ _ _ _ f.lines.fit f.group f.read
 
   module _ (r : LayerLines) (e : RestOf r) where
     pub rest_slots : slots_in r ≡ behind_slots
@@ -58,3 +61,8 @@ module _ (f : FirstGroup) where
   below_size r e several =
       let d : r.below ≡ f.lines.below - 1 = omega (arith, e.1) in
       rw (e.0, d, e.2, e.3) (long-more _ _ _ _ several first_longs)
+
+-- what the size of a layer rests on, and that of a group's long keys
+pub ruleset layer_rules = (capped_most, all_tallied, tallied-none, layer_tallied, rest_fewer)
+
+pub ruleset longs_rules = (long-none, next_eight, long-one, long_line, first_longs, below_size)

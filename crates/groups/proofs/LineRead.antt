@@ -1,16 +1,16 @@
 -- A STATION LINE READ for a layer at depth d: what the layer has of its key stands in the reader's buffer.
 use Rattle.std.specs.Prelude.{◌≡◌, ◌++◌, ◌+◌, ◌*◌, ◌-◌, ◌≤◌, Option, Some}
+use Rattle.std.specs.Borrow.{Bor}
 use Rattle.std.specs.Option.{is_some}
-use Rattle.base.specs.Kit.{sym, ap, subst, ◌∙◌, true, List, ℕ, min, arith, leb, leb-true, leb-false, length, drop, length-drop, drop_of_length-le, drop-length, sets, sets-eq, drop-append-le, take_at}
+use Rattle.base.specs.Kit.{sym, subst, ◌∙◌, true, List, ℕ, min, arith, leb, leb-true, leb-false, length, drop, length-drop, drop_of_length-le, drop-length, sets, sets-eq, drop-append-le, take_at}
 use Rattle.base.proofs.Choice.{by_test}
-use Rattle.key.specs.Ikey.{ikey_of}
 use Rattle.key.specs.Part.{part}
 use Rattle.layering.specs.Keys.{Pair}
 use Rattle.layering.specs.Ascending.{All}
 use Rattle.reading.specs.CodeViews.{key_at, StationRead}
 use Rattle.reading.specs.declared.Line.{Line}
 use Rattle.reading.proofs.Pairs.{pairs-more, station-some, line-got}
-use Rattle.groups.specs.CodeGroups.{OneLine, LoweredRead}
+use Rattle.groups.specs.CodeGroups.{OneLine, LoweredKeyRead}
 
 -- a key k in a buffer, from its byte i on
 pub stored_from : (k buf : List ℕ) (i : ℕ) → length k ≤ length buf → i ≤ length k → part (sets buf 0 k) i (length k - i) ≡ drop i k
@@ -43,18 +43,17 @@ module _ (s : List ℕ) (line : ℕ) (buf buf' : List ℕ) (o : Option Line) (R 
   line-short = omega (arith, key-short, read.found.0)
 
   -- what the layer has of the key, as the code takes it from the buffer
-  pub line-lowered : (d from ikey : ℕ) (p : List ℕ) → length buf ≡ 256 → from ≡ min r.key_len (8 * d) → p ≡ part buf' from (r.key_len - from) → ikey ≡ ikey_of p
-      → LoweredRead s d line (record { ikey = ikey; len = r.key_len - from; value = r.value; next = r.next })
-  line-lowered d from ikey p b f e i =
+  pub line-lowered : (d from : ℕ) (p : Bor (List ℕ)) → length buf ≡ 256 → from ≡ min r.key_len (8 * d) → p.now ≡ part buf' from (r.key_len - from)
+      → LoweredKeyRead s d line (record { key = p; value = r.value; next = r.next })
+  line-lowered d from p b f e =
       let k : List ℕ = key_at (drop line s) in
       let l : r.key_len ≡ length k = read.found.0 in
       let c : from ≡ min (8 * d) (length k) = omega arith in
       let q : drop from k ≡ drop (8 * d) k = rw c (drop_min k (8 * d)) in
-      let t : p ≡ drop (8 * d) k = e ∙ rw (R.kept, l) (stored_from k buf from (omega (arith, key-short)) (omega arith)) ∙ q in
+      let t : p.now ≡ drop (8 * d) k = e ∙ rw (R.kept, l) (stored_from k buf from (omega (arith, key-short)) (omega arith)) ∙ q in
       record {
         is = line-got s line buf buf' r read;
-        ikey = i ∙ ap ikey_of t;
-        len = omega (arith, length-drop from k, ap length q);
+        key = t;
         on = read.found.1;
         inside = read.found.2;
       }

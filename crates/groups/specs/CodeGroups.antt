@@ -15,6 +15,7 @@ use Rattle.building.specs.CodeOrder.{run, behind_run}
 use Rattle.building.specs.CodeGood.{Good}
 use Rattle.groups.specs.declared.Group.{Group}
 use Rattle.groups.specs.declared.Lowered.{Lowered}
+use Rattle.groups.specs.declared.LoweredKey.{LoweredKey}
 
 -- LINES. Pairs as a layer at depth d has them, without the eight bytes of each layer above; those of n station lines of a text.
 abbrev pub lower : ℕ → Pair → Pair
@@ -35,6 +36,13 @@ pub record Lines (s : List ℕ) (line n : ℕ) : Type 0 where
 pub record OneLine (s : List ℕ) (line : ℕ) : Type 0 where
   pub whole : length (pairs_in 1 (drop line s)) ≡ 1
   pub short : All (λ (x : Pair). length x.key ≤ 256) (pairs_in 1 (drop line s))
+
+-- A station line as a layer at depth d has it, with its key.
+pub record LoweredKeyRead (s : List ℕ) (d line : ℕ) (r : LoweredKey) : Type 0 where
+  pub is : station (drop line s) ≡ got (record { key = key_at (drop line s); value = r.value }) (drop r.next s)
+  pub key : r.key.now ≡ drop (8 * d) (key_at (drop line s))
+  pub on : line < r.next
+  pub inside : r.next ≤ length s
 
 -- A station line as a layer at depth d has it.
 pub record LoweredRead (s : List ℕ) (d line : ℕ) (r : Lowered) : Type 0 where

@@ -1,7 +1,7 @@
 // From the station lines of a sheet to the groups of one ikey in a layer, and the size of a layer. Nothing is stored: a layer is some
 // lines of the sheet and the number of layers below it, 31 at the top.
 //
-// Interface: `lowered_at`; `LayerLines`, with its `first_group`; `FirstGroup`, with its `rest` and its `layer_below`;
+// Interface: `lowered_key`, `lowered_at`; `LayerLines`, with its `first_group`; `FirstGroup`, with its `rest` and its `layer_below`;
 // `Group::slots`; and `layer_size`.
 #![tactic(auto)]
 
@@ -10,14 +10,24 @@ ghost use Rattle.base.specs.Kit.{suc, min};
 ghost use Rattle.layering.specs.Accepted.{end_n, end_s};
 ghost use Rattle.building.specs.Shape.{long_slots, layer_of};
 ghost use Rattle.building.proofs.Sizes.{internodes};
-ghost use Rattle.groups.specs.CodeGroups.{OneLine, LoweredRead, lines_at, Fit, GroupRead, grown};
+ghost use Rattle.groups.specs.CodeGroups.{OneLine, LoweredRead, LoweredKeyRead, lines_at, Fit, GroupRead, grown};
 ghost use Rattle.groups.specs.Once.{Fit-prop, GroupRead-prop};
 ghost use Rattle.groups.specs.CodeSize.{capped, counted};
 
 use key::{ikey_of, part_of};
+use node::internode::INTERNODE_SIZE;
+use node::leaf::LEAF_SIZE;
 use reading::station_at;
 
-// A station line as a layer has it: the ikey and the length of what the layer has of its key, the value, and the place behind the line.
+// A station line as a layer has it: what the layer has of its key, the value, and the place behind the line.
+#[derive(Clone, Copy)]
+pub struct LoweredKey<'b> {
+    pub key: &'b [u8],
+    pub value: u64,
+    pub next: usize,
+}
+
+// The same with the ikey and the length of the key alone.
 #[derive(Clone, Copy)]
 pub struct Lowered {
     pub ikey: u64,
@@ -27,7 +37,9 @@ pub struct Lowered {
 }
 
 // The pairs of one ikey: how many keys end in the layer, how many go on below it, the first line of those that go on, and the line
-// behind the group. `long_line` is read behind a test of `longs` alone, and while there is none moves with `behind`.
+// behind the group. `long_line` is read behind a test of `longs` alone, and while there is none moves with `behind`. `longs` is a count and no
+// enum of none, one and many: it goes up line by line, and the lines behind the group and the layer below take it as a number; an enum would
+// be made of it only to be matched at once.
 #[derive(Clone, Copy)]
 pub struct Group {
     pub shorts: usize,
@@ -65,6 +77,26 @@ pub struct FirstGroup<'a> {
     pub ghost read: { GroupRead lines.sheet.now (31 - lines.below) lines.line lines.left group } by { GroupRead-prop lines.sheet.now (31 - lines.below) lines.line lines.left group },
 }
 
+// The station line at a place of a sheet, as a layer at a depth has it, its key left in `buf`.
+pub fn lowered_key<'b>(
+    sheet: &[u8],
+    line: usize,
+    depth: usize,
+    buf: &'b mut [u8; 256],
+) -> LoweredKey<'b>
+    requires one_line { OneLine sheet.now line }
+    requires depth_bound { depth ≤ 31 }
+    ensures { LoweredKeyRead sheet.now depth line result }
+{
+    let read = station_at(sheet, line, buf).unwrap();
+    let from = read.key_len.min(8 * depth);
+    LoweredKey {
+        key: part_of(buf, from, read.key_len - from),
+        value: read.value,
+        next: read.next,
+    }
+}
+
 // The station line at a place of a sheet, as a layer at a depth has it.
 pub fn lowered_at(sheet: &[u8], line: usize, depth: usize) -> Lowered
     requires one_line { OneLine sheet.now line }
@@ -72,12 +104,10 @@ pub fn lowered_at(sheet: &[u8], line: usize, depth: usize) -> Lowered
     ensures { LoweredRead sheet.now depth line result }
 {
     let mut buf = [0u8; 256];
-    let read = station_at(sheet, line, &mut buf).unwrap();
-    let from = read.key_len.min(8 * depth);
-    let len = read.key_len - from;
+    let read = lowered_key(sheet, line, depth, &mut buf);
     Lowered {
-        ikey: ikey_of(part_of(&buf, from, len)),
-        len,
+        ikey: ikey_of(read.key),
+        len: read.key.len(),
         value: read.value,
         next: read.next,
     }
@@ -98,6 +128,7 @@ impl<'a> LayerLines<'a> {
 
 impl<'a> FirstGroup<'a> {
     /// The lines behind the group.
+    #[tactic(auto, using(crate::proofs::Firsts::rest_fit))]
     pub fn rest(self) -> LayerLines<'a>
         ensures { (result.sheet ≡ self.entry.lines.sheet)
             × (result.below ≡ self.entry.lines.below)
@@ -132,8 +163,8 @@ impl<'a> FirstGroup<'a> {
     }
 }
 
-// The group that the first line of a layer's lines begins. (`31 - below`, here and below, is no method: its result is not seen through in the
-// loop, and the proof did not close.)
+// The group that the first line of a layer's lines begins. (`31 - below`, here and below, is no method: the loop's invariant
+// does not know what a method answered before the loop, and the proof did not close.)
 #[tactic(auto, using(crate::proofs::Lines::fit_line, crate::proofs::Found::group_whole))]
 fn group_of(lines: LayerLines) -> Group
     requires { 0 < lines.left }
@@ -190,13 +221,14 @@ pub struct Tally {
 
 // The bytes of a layer, counted no further than one past the longest image.
 #[cycle(layer_size_longs_size)]
+#[tactic(auto, using(crate::proofs::Firsts::layer_rules))]
 pub fn layer_size(lines: LayerLines) -> usize
     ensures { result ≡ capped (end_n 0 (layer_of (suc lines.entry.below) (lines_at lines.entry.sheet.now (31 - lines.entry.below) lines.entry.line lines.entry.left))) }
 {
     let mut t = Tally {
         leaves: 1,
         room: 15,
-        bytes: 400,
+        bytes: LEAF_SIZE,
     };
     let mut rest = lines;
     // No iterator over groups: it would hold `rest` alone, and turn by just these lines.
@@ -208,8 +240,9 @@ pub fn layer_size(lines: LayerLines) -> usize
     with_internodes(t)
 }
 
-// The bytes of a group's long keys: a suffix, or a layer below, or nothing.
+// The bytes of a group's long keys: a suffix, or a layer below, or nothing. (Tests of a count: `Group` says why.)
 #[cycle(layer_size_longs_size)]
+#[tactic(auto, using(crate::proofs::Firsts::longs_rules))]
 fn longs_size(first: FirstGroup) -> usize
     ensures { result ≡ capped (end_s 0 (long_slots (layer_of first.entry.lines.below) (lines_at first.entry.lines.sheet.now (31 - first.entry.lines.below) first.entry.group.long_line first.entry.group.longs))) }
 {
@@ -244,7 +277,7 @@ fn counted(t: Tally, first: FirstGroup, bytes: usize) -> Tally
     Tally {
         leaves: add_capped(t.leaves, 1),
         room: 15 - n,
-        bytes: add_capped(bytes, 400),
+        bytes: add_capped(bytes, LEAF_SIZE),
     }
 }
 
@@ -255,7 +288,7 @@ fn with_internodes(t: Tally) -> usize
     requires bytes_bound { t.bytes ≤ 16777217 }
     ensures { result ≡ capped (t.bytes + 256 * internodes t.leaves t.leaves) }
 {
-    add_capped(t.bytes, 256 * internodes_over(t.leaves))
+    add_capped(t.bytes, INTERNODE_SIZE * internodes_over(t.leaves))
 }
 
 // The internodes over so many leaves: sixteen children to each, level by level.
@@ -265,14 +298,11 @@ fn internodes_over(leaves: usize) -> usize
     ensures value { result ≡ internodes leaves leaves }
     ensures upper_bound { result ≤ leaves }
 {
-    let mut n = leaves;
-    let mut sum = 0;
-    // No range: how many levels there are shows only at the last.
-    while 1 < n {
-        n = n.div_ceil(16);
-        sum += n;
+    if leaves <= 1 {
+        return 0;
     }
-    sum
+    let level = leaves.div_ceil(16);
+    level + internodes_over(level)
 }
 
 // A sum, counted no further than one past the longest image.

@@ -70,3 +70,6 @@ module _ (w : ℕ) (out row : List ℕ) (i at to : ℕ) where
   pub words-none : length row ≤ i → out ≡ put out at (words w (length row - i) (drop i row))
   unfolding words
   words-none h = let e : length row - i ≡ 0 = omega arith in rw e (paste-zero out at [])
+
+-- what a row rests on
+pub ruleset rows_put = (words_more, words-none)

@@ -48,3 +48,5 @@ words-padded w zero m xs = refl
 words-padded w (suc n) zero [] = refl
 words-padded w (suc n) (suc m) [] = ap (λ (r : List ℕ). le_bytes w 0 ++ r) (words-padded w n m [])
 words-padded w (suc n) m (x ∷ xs) = ap (λ (r : List ℕ). le_bytes w x ++ r) (words-padded w n m xs)
+
+pub ruleset bytes_words = (byte-words)

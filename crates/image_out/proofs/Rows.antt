@@ -8,7 +8,7 @@ use Rattle.building.specs.Build.{mask, suffix_word}
 use Rattle.building.proofs.Numbers.{mask_lt}
 use Rattle.image_out.specs.declared.LeafSlots.{LeafSlots}
 use Rattle.image_out.specs.declared.Children.{Children}
-use Rattle.image_out.specs.CodeRows.{row_of, slots_of, HoldsSlots, children_of}
+use Rattle.image_out.specs.CodeRows.{row_of, slots_of, children_of}
 
 -- one number more in a row
 row-set : (n i x : ℕ) (xs : List ℕ) → length xs ≡ i → i < n → set (row_of n xs) i x ≡ row_of n (xs ++ (x ∷ []))
@@ -90,15 +90,17 @@ module _ (c : Children) (xs cs : List ℕ) (e : c ≡ children_of xs cs) where
       let k : length xs < 15 = rw e at h in
       rw (e, row-set 15 (length xs) x xs refl k, row-set 16 (length xs + 1) node cs l (omega arith), length-append xs (x ∷ [])) refl
 
--- the numbers of a record that has room for a slot
-pub record Room (s : LeafSlots) : Type 0 where
-  pub n : s.n < 15
-  pub bit : s.bit ≤ 2 ^ 14
-  pub mask : s.mask < 2 ^ 14
+-- THE NUMBERS of a record that has room for a slot
+module _ (s : LeafSlots) (fs : List Fields) (e : s ≡ slots_of fs) (few : length fs ≤ 14) where
+  pub slot_bit : s.bit ≤ 16384
+  unfolding slots_of
+  slot_bit = rw e (pow-le-pow_right {n = 2} (omega arith) {i = length fs} {j = 14} few)
 
-pub room_for_slot : (s : LeafSlots) → HoldsSlots 14 s → Room s
-unfolding slots_of
-room_for_slot s h =
-    let e : s ≡ slots_of h.fields = h.same in
-    let few : length h.fields ≤ 14 = h.few in
-    rw e (record { n = omega arith; bit = pow-le-pow_right {n = 2} (omega arith) {i = length h.fields} {j = 14} few; mask = mask_lt h.fields 14 few })
+  pub slot_mask : s.mask < 16384
+  unfolding slots_of
+  slot_mask = rw e (mask_lt fs 14 few)
+
+-- what a slot more rests on, and a child more
+pub ruleset slot_rules = (slots_n, slot_bit, slot_mask, slot-more)
+
+pub ruleset child_rules = (child-more)

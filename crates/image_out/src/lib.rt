@@ -7,7 +7,7 @@
 // The output and a place in it stay two parameters: a struct of both would be made anew for each call, which has a place and a room of its own.
 #![tactic(auto)]
 
-ghost use Rattle.std.specs.Prelude.{◌∷◌, ◌++◌, ◌≡◌, ◌+◌, ◌-◌, ◌*◌, ◌/◌, ◌≤◌, ◌<◌};
+ghost use Rattle.std.specs.Prelude.{◌∷◌, ◌++◌, ◌≡◌, ◌+◌, ◌-◌, ◌*◌, ◌/◌, ◌^◌, ◌≤◌, ◌<◌};
 ghost use Rattle.base.specs.Kit.{List, [], ℕ, length, replicate};
 ghost use Rattle.base.specs.Pick.{pick};
 ghost use Rattle.layering.specs.Tree.{Fields};
@@ -31,6 +31,16 @@ pub struct LeafSlots {
     pub n: usize,
 }
 
+// One slot's fields; `suffix` is its suffix word, 0 where it has none, as the leaf's row has it.
+#[derive(Clone, Copy)]
+pub struct SlotFields {
+    pub ikey: u64,
+    pub keylenx: u8,
+    pub value: u64,
+    pub suffix: u64,
+    pub live: bool,
+}
+
 // An internode's separators and children so far, zero past them; how many separators there are.
 // Rows, and no array of pairs: the internode has these very rows, and each is written whole; it has one child more than separators.
 #[derive(Clone, Copy)]
@@ -51,6 +61,7 @@ fn put_filled(out: &mut [u8], at: usize, s: &[u8], n: usize)
 }
 
 // The low n bytes of x into out from `at` on, the lowest first; a number has eight, and those past them are zero.
+#[tactic(auto, using(crate::proofs::PutLaws::bytes_filled))]
 pub fn put_le(out: &mut [u8], at: usize, n: usize, x: u64)
     requires { at + n ≤ length out.old }
     ensures { out.new ≡ put out.old at (le_bytes n x) }
@@ -60,6 +71,9 @@ pub fn put_le(out: &mut [u8], at: usize, n: usize, x: u64)
 }
 
 // The numbers of a row as words of eight bytes into out from `at` on.
+// (By index. Tried: over `chunks_exact_mut` of the part, zipped with the row; nothing is known of what was written behind such a loop, and the
+// proof did not close.)
+#[tactic(auto, using(crate::proofs::PutLaws::rows_put))]
 pub fn put_words(out: &mut [u8], at: usize, row: &[u64])
     requires { at + 8 * length row.now ≤ length out.old }
     ensures { out.new ≡ put out.old at (words 8 (length row.now) row.now) }
@@ -70,6 +84,7 @@ pub fn put_words(out: &mut [u8], at: usize, row: &[u64])
 }
 
 // A leaf's fifteen `keylenx` bytes and the zero byte behind them.
+#[tactic(auto, using(crate::proofs::PutRows::bytes_words))]
 fn put_lens(out: &mut [u8], at: usize, lens: &[u8; 15])
     requires { at + 16 ≤ length out.old }
     ensures { out.new ≡ put out.old at (words 1 15 lens.now ++ replicate 1 0) }
@@ -103,40 +118,36 @@ fn mask_with(mask: u64, bit: u64, live: bool) -> u64
 }
 
 // The slots and one more behind them.
-pub fn add_slot(
-    mut s: LeafSlots,
-    ikey: u64,
-    len: u8,
-    value: u64,
-    suffix: u64,
-    live: bool,
-) -> LeafSlots
+#[tactic(auto, using(crate::proofs::Rows::slot_rules))]
+pub fn add_slot(mut s: LeafSlots, slot: SlotFields) -> LeafSlots
     requires { HoldsSlots 14 s }
-    ensures { (fs : List Fields) (f : Fields) → s ≡ slots_of fs → f.ikey ≡ ikey → f.keylenx ≡ len → f.value ≡ value
-        → suffix_word f ≡ suffix → f.live ≡ live → result ≡ slots_of (fs ++ (f ∷ [])) }
+    ensures { (fs : List Fields) (f : Fields) → s ≡ slots_of fs → f.ikey ≡ slot.ikey → f.keylenx ≡ slot.keylenx → f.value ≡ slot.value
+        → suffix_word f ≡ slot.suffix → f.live ≡ slot.live → result ≡ slots_of (fs ++ (f ∷ [])) }
 {
-    s.ikeys[s.n] = ikey;
-    s.lens[s.n] = len;
-    s.values[s.n] = value;
-    s.suffixes[s.n] = suffix;
-    s.mask = mask_with(s.mask, s.bit, live);
+    s.ikeys[s.n] = slot.ikey;
+    s.lens[s.n] = slot.keylenx;
+    s.values[s.n] = slot.value;
+    s.suffixes[s.n] = slot.suffix;
+    s.mask = mask_with(s.mask, s.bit, slot.live);
     s.bit *= 2;
     s.n += 1;
     s
 }
 
 // A leaf's first sixteen bytes: the version with bit 31 alone, the live mask, the identity permutation with n used slots.
+#[tactic(auto, using(crate::proofs::RecordBytes::head_puts))]
 fn put_leaf_head(out: &mut [u8], at: usize, mask: u64, n: usize)
     requires at_in_bounds { at + 16 ≤ length out.old }
     requires n_bound { n ≤ 15 }
-    ensures { out.new ≡ put out.old at (le_bytes 4 2147483648 ++ le_bytes 4 mask ++ le_bytes 8 (17134975606245761280 + n)) }
+    ensures { out.new ≡ put out.old at (le_bytes 4 (2 ^ 31) ++ le_bytes 4 mask ++ le_bytes 8 (0xedcba98765432100 + n)) }
 {
-    put_le(out, at, 4, 2147483648);
+    put_le(out, at, 4, 1 << 31);
     put_le(out, at + 4, 4, mask);
-    put_le(out, at + 8, 8, 17134975606245761280 + (n as u64));
+    put_le(out, at + 8, 8, 0xedcb_a987_6543_2100 + (n as u64));
 }
 
 // A leaf with these slots and no leaf behind it, from `at` on.
+#[tactic(auto, using(crate::proofs::Rows::slots_n))]
 pub fn put_leaf(out: &mut [u8], at: usize, s: LeafSlots)
     requires at_in_bounds { at + 400 ≤ length out.old }
     requires holds_slots { HoldsSlots 15 s }
@@ -166,6 +177,7 @@ pub fn first_child(node: u64) -> Children
 }
 
 // The children and one more behind them, with the separator before it.
+#[tactic(auto, using(crate::proofs::Rows::child_rules))]
 pub fn add_child(mut c: Children, separator: u64, node: u64) -> Children
     requires { c.n < 15 }
     ensures { (xs cs : List ℕ) → c ≡ children_of xs cs → length cs ≡ length xs + 1
@@ -211,6 +223,7 @@ pub fn put_padded(out: &mut [u8], at: usize, s: &[u8]) -> usize
 }
 
 // The trailer of an image whose records end at `at`.
+#[tactic(auto, using(crate::proofs::RecordBytes::trailer_puts))]
 pub fn put_trailer(out: &mut [u8], at: usize, root: u64, count: u64)
     requires { at + 32 ≤ length out.old }
     ensures { out.new ≡ put out.old at (trailer_bytes at root count) }

@@ -32,14 +32,18 @@ fn keys(rt: &impl Print, start: Walk, image: &[u8]) {
         let step = scan::step::step(walk, image);
         let HandedOut { depth, count } = step.handed;
         walk = step.walk;
-        let _ = match step.answer {
+        match step.answer {
             Ok(Some(KeyOut { len, value })) => {
                 let key = KeyText(first(&walk.cursor.buf, len));
-                println!(rt; "{count} {}{key} {value}", Indent(depth))
+                line(
+                    rt,
+                    b"",
+                    format_args!("{count} {}{key} {value}", Indent(depth)),
+                );
             }
             Ok(None) => return line(rt, b"", format_args!("end depth {depth} count {count}")),
             Err(decline) => return line(rt, b"", format_args!("declined {decline}")),
-        };
+        }
     }
 }
 
@@ -57,12 +61,12 @@ fn answer(rt: &impl Print, request: &Request<u8>) {
 }
 
 fn main(rt: HostRuntime) {
-    let mut input = rt.reader();
-    let mut space = [0u8; requests::SPACE];
-    for _ in 0..MOST {
-        let Some(request) = requests::read(&mut input, &mut space) else {
-            return;
-        };
-        answer(&rt, &request);
-    }
+    requests::each(
+        &mut rt.reader(),
+        MOST,
+        &mut |request, _| {
+            answer(&rt, request);
+            Some(())
+        },
+    );
 }

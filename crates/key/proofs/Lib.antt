@@ -5,3 +5,4 @@ pub mod Ikey
 pub mod Turns
 pub mod Part
 pub mod Words
+pub mod Turned

@@ -1,10 +1,9 @@
 -- What one turn of a loop adds to the number that the first n bytes make: one byte more.
 use Rattle.std.specs.Int.{w64, from_be_bytes}
-use Rattle.std.specs.Prelude.{◌≡◌, ◌∷◌, ◌+◌, ◌*◌, ◌^◌, ◌≤◌, ◌<◌}
-use Rattle.base.specs.Kit.{◌∙◌, ap, take, List, [], ℕ, zero, suc, pow-le-pow_right, pow-suc, mul_assoc, arith, get_or}
+use Rattle.std.specs.Prelude.{◌≡◌, ◌∷◌, ◌+◌, ◌*◌, ◌^◌}
+use Rattle.base.specs.Kit.{◌∙◌, ap, take, List, [], ℕ, zero, suc, pow-suc, mul_assoc, arith, get_or}
 use Rattle.key.specs.Ikey.{be}
-use Rattle.key.proofs.Bytes.{bytes_of}
-use Rattle.key.proofs.Ikey.{be-lt, be_of-take}
+use Rattle.key.proofs.Ikey.{be_of-take}
 
 -- one byte more is the lowest of the number
 pub be-more : (n : ℕ) (s : List ℕ) → be (suc n) s ≡ be n s * 256 + get_or s n 0
@@ -13,10 +12,6 @@ be-more zero [] = omega arith
 be-more zero (a ∷ s) = omega arith
 be-more (suc n) [] = omega arith
 be-more (suc n) (a ∷ s) = omega (arith, be-more n s, mul_assoc a (256 ^ n) 256, ap (λ (x : ℕ). a * x) (pow-suc 256 n))
-
--- eight bytes fit a u64
-pub be-fits : (n : ℕ) (s : List ℕ) → ((i : ℕ) → get_or s i 0 < 256) → n ≤ 8 → be n s < 2 ^ 64
-be-fits n s b h = omega (arith, be-lt n s (bytes_of s b), pow-le-pow_right {n = 256} (omega arith) {i = n} {j = 8} h)
 
 -- eight bytes as a plain sum, which is std's number of them
 eight : (s : List ℕ)

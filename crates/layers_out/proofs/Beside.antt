@@ -202,3 +202,6 @@ module _ (h : ℕ) (out₀ : List ℕ) (r : Run) (i : ℕ) (out : List ℕ) (q :
       pub internode-is : (few : leaves_l (slots_in q.lines) ≤ limit)
           → Closed h out₀ out' r (record { at = q.at + 256; lines = q.lines; prev = q.prev; node = q.at; first = r.first; few = few }) (siblings_at r.lines h 15)
       internode-is = siblings_done h out₀ r i out q c inv (none_left w) out' p
+
+-- what an internode rests on
+pub ruleset internode_rules = (siblings-begin)

@@ -235,3 +235,6 @@ module _ (f : FirstGroup) where
               rw (laid_group (record { out = out; at = at; fields = fs }), first, several-laid m x l (record { out = out; at = at; fields = gs }) some_more)
               (laid_so out out' at q all gs x node (w.bytes ∙ rw same refl) (w.at ∙ rw same refl)
               (add gs (root_at (stands_at at node) (has_layer x)) (added fs k') (slot.ikey ∙ sym h.ikey) slot.keylenx (slot.value ∙ sym (w.node ∙ rw same refl)) slot.word slot.live))
+
+-- what a group rests on
+pub ruleset group_rules = (shorts-given, shorts-room, long-room)

@@ -365,3 +365,8 @@ module _ (out₀ : List ℕ) (from : ℕ) (l : LayerLines) (p : LayerRoom out₀
 
         pub layer-is : LayerWrote out₀ out from r (layer_at l)
         layer-is = layer_done out₀ from l p h out r inside no_more
+
+-- what a subtree and a layer rest on
+pub ruleset subtree_rules = (low-room, first-room, then-room)
+
+pub ruleset layer_rules = (first_few, leaf_room)

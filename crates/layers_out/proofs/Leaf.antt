@@ -129,3 +129,6 @@ module _ (out : List ℕ) (r : Run) (room : Room out r.at r.prev (end_n r.at (le
           (record { at = q.slotted.at + 400; lines = q.lines; prev = q.slotted.at; node = q.slotted.at; first = get_or q.slotted.slots.ikeys 0 0; few = few })
           (leaf_at r.lines)
       leaf-is out₃ f few = leaf_wrote out r r.lines.below plain fits out₁ out₂ out₃ q l e f few
+
+-- what a leaf rests on
+pub ruleset leaf_rules = (groups-room, record-fits)

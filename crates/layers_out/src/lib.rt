@@ -5,8 +5,8 @@
 // may have a layer. All that writes one record, or reads one line, stands outside the cycle.
 #![tactic(auto)]
 
-ghost use Rattle.std.specs.Prelude.{◌≡◌, ◌+◌, ◌*◌, ◌-◌, ◌^◌, ◌≤◌, ◌<◌};
-ghost use Rattle.base.specs.Kit.{List, [], length};
+ghost use Rattle.std.specs.Prelude.{◌≡◌, ◌+◌, ◌-◌, ◌^◌, ◌≤◌, ◌<◌};
+ghost use Rattle.base.specs.Kit.{List, []};
 ghost use Rattle.layering.specs.Tree.{Fields};
 ghost use Rattle.layering.specs.Accepted.{end_n, end_s};
 ghost use Rattle.building.specs.Shape.{size_s};
@@ -21,6 +21,7 @@ ghost use Rattle.layers_out.specs.CodeCycle.{Room, leaf_at, leaves_at, siblings_
 mod run;
 
 use groups::{FirstGroup, LayerLines};
+use image_out::SlotFields;
 use node::internode::INTERNODE_SIZE;
 use node::leaf::{LAYER_KEYLENX, LEAF_SIZE};
 pub use run::{Parts, Run};
@@ -28,6 +29,7 @@ use slots_out::Slotted;
 
 // A layer of some station lines: levels until no line is left.
 #[cycle(layers)]
+#[tactic(auto, using(crate::proofs::Growth::layer_rules))]
 pub fn write_layer<'a>(out: &mut [u8], at: usize, lines: LayerLines<'a>) -> Run<'a>
     requires { LayerRoom out.old at lines }
     ensures { LayerWrote out.old out.new at result (layer_at lines.entry) }
@@ -49,8 +51,12 @@ pub fn write_layer<'a>(out: &mut [u8], at: usize, lines: LayerLines<'a>) -> Run<
     r
 }
 
+// An internode has a first child, and at most so many beside it.
+const SIBLINGS: usize = 15;
+
 // An internode over the subtree of height h that was written last, and up to fifteen more beside it.
 #[cycle(layers)]
+#[tactic(auto, using(crate::proofs::Beside::internode_rules))]
 fn write_internode<'a>(out: &mut [u8], h: usize, r: Run<'a>) -> Run<'a>
     requires h_bound { h ≤ 11 }
     requires room { Room out.old r.at r.prev (end_l r.at (siblings_at r.lines h 15) + 256) }
@@ -58,7 +64,7 @@ fn write_internode<'a>(out: &mut [u8], h: usize, r: Run<'a>) -> Run<'a>
 {
     let mut c = image_out::first_child(r.node as u64);
     let mut q = r;
-    for _ in 0..15_usize {
+    for _ in 0..SIBLINGS {
         if q.lines.left == 0 {
             break;
         }
@@ -77,6 +83,7 @@ fn write_internode<'a>(out: &mut [u8], h: usize, r: Run<'a>) -> Run<'a>
 
 // A subtree of height h.
 #[cycle(layers)]
+#[tactic(auto, using(crate::proofs::Growth::subtree_rules))]
 fn write_subtree<'a>(out: &mut [u8], h: usize, r: Run<'a>) -> Run<'a>
     requires h_bound { h ≤ 11 }
     requires left_nonzero { 0 < r.lines.left }
@@ -92,6 +99,7 @@ fn write_subtree<'a>(out: &mut [u8], h: usize, r: Run<'a>) -> Run<'a>
 
 // One leaf: its parts, its record, and the previous leaf's `next`.
 #[cycle(layers)]
+#[tactic(auto, using(crate::proofs::Leaf::leaf_rules))]
 fn write_leaf<'a>(out: &mut [u8], r: Run<'a>) -> Run<'a>
     requires { Room out.old r.at r.prev (end_n r.at (leaf_at r.lines)) }
     ensures { Wrote 1 out.old out.new r.entry result (leaf_at r.entry.lines) }
@@ -132,8 +140,10 @@ fn write_groups<'a>(out: &mut [u8], r: Run<'a>) -> Parts<'a>
     Parts { lines, slotted }
 }
 
-// One group: its short keys, and a suffix or a layer for those that go on; behind the parts that a leaf has.
+// One group: its short keys, and a suffix or a layer for those that go on; behind the parts that a leaf has. (`longs` is tested as a count:
+// `Group` says why.)
 #[cycle(layers)]
+#[tactic(auto, using(crate::proofs::GroupParts::group_rules))]
 fn write_group(out: &mut [u8], first: FirstGroup, before: Slotted) -> Slotted
     requires holds_slots { HoldsSlots (15 - size_s (first_slots first.lines)) before.slots }
     requires room { Room out.old before.at 0 (end_s before.at (first_slots first.lines)) }
@@ -153,8 +163,15 @@ fn write_group(out: &mut [u8], first: FirstGroup, before: Slotted) -> Slotted
     }
     let head = groups::lowered_at(lines.sheet, g.long_line, depth);
     let r = write_layer(out, so_far.at, first.layer_below());
+    let slot = SlotFields {
+        ikey: head.ikey,
+        keylenx: LAYER_KEYLENX,
+        value: r.node as u64,
+        suffix: 0,
+        live: false,
+    };
     Slotted {
         at: r.at,
-        slots: image_out::add_slot(slots, head.ikey, LAYER_KEYLENX, r.node as u64, 0, false),
+        slots: image_out::add_slot(slots, slot),
     }
 }

@@ -52,7 +52,8 @@ impl Line {
     }
 }
 
-// A listing at its begin: the walk from the empty key on, unbounded.
+// A listing at its start: the walk from the empty key on, unbounded.
+#[tactic(auto, unfolding(crate::specs::CodeLines::begun))]
 fn begin(stage: Stage, image: &[u8]) -> Listing
     ensures { result ≡ begun stage image.now }
 {
@@ -65,6 +66,7 @@ fn begin(stage: Stage, image: &[u8]) -> Listing
 }
 
 // The listing of any bytes.
+#[tactic(auto, using(crate::proofs::LineLaws::has_trailer), unfolding(crate::specs::CodeLines::opened, crate::specs::CodeLines::opened_as))]
 pub fn open(image: &[u8]) -> Listing
     ensures { result ≡ opened image.now }
 {
@@ -90,7 +92,7 @@ fn written<F: FnOnce(&mut [u8; LINE]) -> usize>(write: F, listing: Listing) -> L
 }
 
 // One step, and its line.
-#[tactic(auto, unfolding(crate::specs::CodeLines::answer_line))]
+#[tactic(auto, unfolding(crate::specs::CodeLines::answer_line, crate::specs::CodeLines::sum_of, crate::specs::CodeLines::line_of, crate::specs::CodeLines::blank))]
 fn step_line(listing: Listing, image: &[u8]) -> Result<Option<Line>, Decline>
     ensures { result ≡ step_line listing (step listing.walk image.now) }
 {
@@ -119,6 +121,7 @@ fn step_line(listing: Listing, image: &[u8]) -> Result<Option<Line>, Decline>
 }
 
 // The next line of a listing over the image that it was opened over; none where the sheet is out.
+#[tactic(auto, unfolding(crate::specs::CodeLines::next_line, crate::specs::CodeLines::line_at, crate::specs::CodeLines::line_of, crate::specs::CodeLines::blank))]
 pub fn next_line(listing: Listing, image: &[u8]) -> Result<Option<Line>, Decline>
     ensures { result ≡ next_line listing image.now }
 {

@@ -1,21 +1,10 @@
 -- What the answers of calls say, for the proofs of the moves; a function that needs one names it by `using(..)`.
-use Rattle.std.specs.Prelude.{◌≡◌, ◌+◌, ◌≤◌, Result, Ok, Err}
-use Rattle.base.specs.Kit.{refl, Bool, false, not, List, ℕ, arith, length}
-use Rattle.base.proofs.Choice.{found_so}
+use Rattle.std.specs.Prelude.{◌≡◌, Result, Ok, Err}
+use Rattle.base.specs.Kit.{refl, List, ℕ}
 use Rattle.moves.specs.Types.{Decline}
-use Rattle.search.specs.Traversal.{leaf_there, reach}
 use Rattle.search.proofs.Answers.{suffix-in}
-use Rattle.search.proofs.Laws.{leaf_there_lem, reach-leaf}
 use Rattle.start.proofs.StartLaws.{enter-within}
 use Rattle.moves.specs.Moves.{Taken, kept, taken_on}
-
--- a leaf that a call found to stand there lies in the image
-pub there-in : (image : List ℕ) (leaf : ℕ) (r : Bool) → r ≡ leaf_there image leaf → not r ≡ false → leaf + 400 ≤ length image
-there-in image leaf r e f = omega (arith, leaf_there_lem image leaf (found_so _ r e f))
-
--- so does one that a descent came to
-pub reached_in : (image : List ℕ) (leaf ikey root : ℕ) → reach image ikey root ≡ Ok leaf → leaf + 400 ≤ length image
-reached_in image leaf ikey root e = omega (arith, leaf_there_lem image leaf (reach-leaf image ikey leaf root e))
 
 -- What other crates' laws say of a layer that is entered and of a suffix that may be read, named so that `using(..)` can have it.
 pub ruleset enters = (enter-within)

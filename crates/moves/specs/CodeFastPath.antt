@@ -5,6 +5,7 @@ use Rattle.base.specs.Kit.{true, false, List, ℕ, leb, ltb, take}
 use Rattle.base.specs.Pick.{pick}
 use Rattle.node.specs.Permuter.{size_of}
 use Rattle.node.specs.Layout.{permutation_at, ikey_at, value_at, live_at}
+use Rattle.node.specs.declared.leaf.SlotReader.{SlotReader}
 use Rattle.moves.specs.Types.{Position, Slot, CursorPlace, HandedKey, Side, Inside, AtEnd, Past, Outcome, Emit, Exhausted}
 use Rattle.cursor.specs.RangeBound.{tested}
 use Rattle.search.specs.Helper.{slot_in}
@@ -16,6 +17,11 @@ fast_slot image leaf p k =
     let s = slot_in image leaf p.0 in
     pick (ltb p.0 (size_of (permutation_at image leaf)) && (ltb s.0 15 && (leb k.ikey (ikey_at image leaf s) && (is_storable image leaf s k.offset && live_at image leaf s))))
     (Some s) None
+
+-- The slot of a reader, where there is one.
+abbrev pub slot_of : Option SlotReader → Option Slot
+slot_of None = None
+slot_of (Some s) = Some s.slot
 
 -- What a key that is stored comes to, by the side on which the bound has it: it is out, or none is.
 unfoldable pub next_on : Side → ℕ → Option HandedKey

@@ -17,9 +17,10 @@ pub enum ScanState {
     Up,
 }
 
-// `depth` is how many of the stack's entries are in use; `last` is the Rust's last_ikey, `dup` its needs_duplicate_check. State and
-// flag stand apart: side by side they are copied as one word and taken apart in every move. `last` is 0 where there is none: no ikey is below
-// that, so that no test would open an Option. `dup` is no part of FindNext: it is kept past the leaf's end and set by Retry and Up.
+// `depth` is how many of the stack's entries are in use; `last` is the Rust's last_ikey, 0 where there is none: no ikey is below that, so
+// that no test would open an Option. `dup` is the Rust's needs_duplicate_check, which stands beside its state too: Down, Retry and Up set it,
+// and Start leaves it as it came. As a field of FindNext it would be no plainer: only `duplicate_due` and scan's `is_along` ask for it, and all
+// else that is said of a walk in FindNext, by the loop, the step and their laws, would then have to name a flag that it does not go by.
 #[derive(Clone, Copy)]
 pub struct ScanCtx {
     pub root: u64,
@@ -63,7 +64,7 @@ pub fn in_layer(c: ScanCtx, root: u64, leaf: u64, depth: usize) -> ScanCtx
 
 // The walk stands where a search came to, to find what is there: each argument is a field that this sets.
 #[tactic(auto, unfolding(crate::specs::Moves::standing))]
-pub fn stand(
+pub(crate) fn stand(
     c: ScanCtx,
     leaf: u64,
     cursor: CursorPlace,

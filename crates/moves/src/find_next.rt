@@ -1,5 +1,5 @@
 // FindNext (the Rust's find_next and find_next_with_dup_check): the slot at the walk's position, or the leaf after its last.
-ghost use Rattle.std.specs.Prelude.{◌≡◌, ◌+◌, ◌≤◌, Ok};
+ghost use Rattle.std.specs.Prelude.{◌≡◌, ◌+◌, ◌≤◌, Ok, is_some, IfSome};
 ghost use Rattle.base.specs.Kit.{true};
 ghost use Rattle.search.specs.Traversal.{leaf_there};
 ghost use Rattle.moves.specs.CodeFastPath.{outcome_of};
@@ -156,7 +156,7 @@ impl<'a> AtSlot<'a> {
 
 impl<'a> Walking<'a> {
     // Past the last slot: the next leaf, or Up where there is none.
-    #[tactic(auto, using(search::proofs::Laws::leaf_there_lem), unfolding(crate::specs::Moves::advance_leaf, base::specs::Decline::and_then, base::specs::Pick::pick))]
+    #[tactic(auto, unfolding(crate::specs::Moves::advance_leaf, base::specs::Decline::and_then, base::specs::Pick::pick))]
     fn advance_leaf(self, leaf: LeafReader, buf: &[u8; 256]) -> Result<Pass, Decline>
         requires { leaf.at ≡ self.ctx.leaf }
         ensures { result ≡ advance_leaf leaf.entry.image.now buf.now self.entry.ctx }
@@ -174,19 +174,29 @@ impl<'a> Walking<'a> {
                 },
             });
         }
-        if !traversal::is_leaf_there(leaf.image, next) {
-            return Err(Decline::Unreadable);
-        }
-        let behind = LeafReader {
-            image: leaf.image,
-            at: next as usize,
-        };
+        let behind = traversal::leaf_at(leaf.image, next).ok_or(Decline::Unreadable)?;
         let position = helper::lower_with_suffix(behind, self.cursor(buf))?;
         Ok(context::stand(c, next, c.cursor, false, c.last, position))
     }
 
-    // FindNext, with the duplicate check where it is due. `tested`: see `one_move`.
-    #[tactic(auto, using(search::proofs::Laws::leaf_there_lem), unfolding(search::specs::CodeSlots::usable_slot, crate::specs::Moves::find_next, crate::specs::Moves::kept, base::specs::Pick::pick))]
+    // The leaf that the walk stands in, where one is there: this move may have tested that. `tested`: see `one_move`.
+    #[tactic(auto, using(search::proofs::Laws::leaf_there_lem))]
+    fn leaf_here(self, tested: bool) -> Option<LeafReader<'a>>
+        requires { tested ≡ true → leaf_there self.image.now self.ctx.leaf ≡ true }
+        ensures there { is_some result ≡ leaf_there self.entry.image.now self.entry.ctx.leaf }
+        ensures leaf { IfSome result (λ leaf. (leaf.image.now ≡ self.entry.image.now) × (leaf.at ≡ self.entry.ctx.leaf)) }
+    {
+        if !tested {
+            return traversal::leaf_at(self.image, self.ctx.leaf);
+        }
+        Some(LeafReader {
+            image: self.image,
+            at: self.ctx.leaf as usize,
+        })
+    }
+
+    // FindNext, with the duplicate check where it is due.
+    #[tactic(auto, unfolding(search::specs::CodeSlots::usable_slot, base::specs::Decline::and_then, crate::specs::Moves::find_next, crate::specs::Moves::kept, base::specs::Pick::pick))]
     pub fn find_next(self, end: End, buf: &mut [u8; 256], tested: bool) -> Result<Pass, Decline>
         requires position_bound { self.ctx.position.0 ≤ 15 }
         requires offset_bound { self.ctx.cursor.offset ≤ 248 }
@@ -194,29 +204,12 @@ impl<'a> Walking<'a> {
         ensures { (result ≡ (find_next self.entry.image.now end.entry.kind end.entry.key.now buf.old self.entry.ctx).pass) × (buf.new ≡ (find_next self.entry.image.now end.entry.kind end.entry.key.now buf.old self.entry.ctx).buf) }
     {
         let c = self.ctx;
-        if !is_there(self.image, c.leaf, tested) {
-            return Err(Decline::Unreadable);
-        }
-        let leaf = LeafReader {
-            image: self.image,
-            at: c.leaf as usize,
-        };
+        let leaf = self.leaf_here(tested).ok_or(Decline::Unreadable)?;
         let permutation = leaf.permutation();
         if permuter::size(permutation) <= c.position.0 {
             return self.advance_leaf(leaf, buf);
         }
-        let slot = SlotReader {
-            leaf,
-            slot: helper::slot_at(permutation, c.position)?,
-        };
+        let slot = helper::slot_at(leaf, permutation, c.position)?;
         AtSlot { slot, ctx: c }.find_slot(end, buf)
     }
-}
-
-// Whether a leaf stands there, where this move may have tested it.
-fn is_there(image: &[u8], leaf: u64, tested: bool) -> bool
-    requires { tested ≡ true → leaf_there image.now leaf ≡ true }
-    ensures { result ≡ leaf_there image.now leaf }
-{
-    tested || traversal::is_leaf_there(image, leaf)
 }

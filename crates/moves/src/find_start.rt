@@ -3,8 +3,7 @@ ghost use Rattle.std.specs.Prelude.{◌≡◌, ◌<◌, Ok};
 ghost use Rattle.moves.specs.Types.{EnterAt};
 ghost use Rattle.moves.specs.Moves.{begin, start_in, find_start, find_retry};
 
-use crate::context;
-use crate::context::{Outcome, Pass, ScanCtx, ScanState};
+use crate::context::{self, Outcome, Pass, ScanCtx, ScanState};
 use crate::walking::Walking;
 use base::Decline;
 use cursor::range_bound::StartMode;
@@ -21,7 +20,7 @@ impl<'a> Walking<'a> {
     {
         let k = self.ctx.cursor;
         let rest = self.cursor(buf).shift();
-        let _stored = k.assign_store_ikey(buf, k.ikey);
+        let _stored = k.assign_store_ikey(buf, k.ikey); // the cursor with the ikey that it has: only the buffer changes
         Pass {
             outcome: Outcome::Push(s.value()),
             ctx: ScanCtx {
@@ -51,31 +50,23 @@ impl<'a> Walking<'a> {
     }
 
     // Start: the first slot that is not passed over, or the layer that the cursor's bytes lead into.
-    #[tactic(auto, using(crate::proofs::Answers::reached_in), unfolding(crate::specs::Moves::find_start, crate::specs::Moves::kept, crate::specs::Moves::taken_on))]
+    #[tactic(auto, unfolding(crate::specs::Moves::find_start, base::specs::Decline::and_then, crate::specs::Moves::kept, crate::specs::Moves::taken_on))]
     pub fn find_start(self, buf: &mut [u8; 256], mode: StartMode) -> Result<Pass, Decline>
         ensures { (result ≡ (find_start mode self.entry.image.now buf.old self.entry.ctx).pass) × (buf.new ≡ (find_start mode self.entry.image.now buf.old self.entry.ctx).buf) }
     {
         let c = self.ctx;
-        let at = traversal::reach_leaf_for_scan(self.image, c.root, c.cursor.ikey)?;
-        let leaf = LeafReader {
-            image: self.image,
-            at: at as usize,
-        };
+        let leaf = traversal::reach_leaf_for_scan(self.image, c.root, c.cursor.ikey)?;
         self.start_in(leaf, buf, mode)
     }
 
     // Retry: the first slot past the cursor, with a duplicate check to follow. (Start and Retry begin by one descent, and go on differently.)
-    #[tactic(auto, using(crate::proofs::Answers::reached_in), unfolding(crate::specs::Moves::find_retry, crate::specs::Moves::retry_in, base::specs::Decline::and_then))]
+    #[tactic(auto, unfolding(crate::specs::Moves::find_retry, crate::specs::Moves::retry_in, base::specs::Decline::and_then))]
     pub fn find_retry(self, buf: &[u8; 256]) -> Result<Pass, Decline>
         ensures { result ≡ find_retry self.entry.image.now buf.now self.entry.ctx }
     {
         let c = self.ctx;
-        let at = traversal::reach_leaf_for_scan(self.image, c.root, c.cursor.ikey)?;
-        let leaf = LeafReader {
-            image: self.image,
-            at: at as usize,
-        };
+        let leaf = traversal::reach_leaf_for_scan(self.image, c.root, c.cursor.ikey)?;
         let position = helper::lower_with_suffix(leaf, self.cursor(buf))?;
-        Ok(context::stand(c, at, c.cursor, true, c.last, position))
+        Ok(context::stand(c, leaf.at as u64, c.cursor, true, c.last, position))
     }
 }

@@ -2,8 +2,9 @@
 // the buffer lent; the loop holds the layer stack. Where the Rust waits for a stable version or starts again, a resting image that cannot
 // be read is declined.
 //
-// Interface: `one_move`, the functions of fast_path and of stored_key, and the types of context. A move asks that the key it works on lies
-// within the buffer, which the step's test of a walk's numbers (21) gives; whatever the image says is answered or declined.
+// Interface: `one_move`, the functions of fast_path and of stored_key, and of context the types, and `in_layer` and `go_on`, which scan calls.
+// A move asks that the key it works on lies within the buffer, which the step's test of a walk's numbers (21) gives; whatever the image says is
+// answered or declined.
 #![tactic(auto)]
 
 ghost use Rattle.std.specs.Prelude.{◌≡◌, ◌≤◌};
@@ -17,7 +18,6 @@ use crate::walking::Walking;
 use base::Decline;
 use cursor::cursor_key::CursorReader;
 use cursor::range_bound::End;
-use node::leaf::LeafReader;
 use search::{helper, traversal};
 
 pub mod context;
@@ -46,26 +46,22 @@ fn handle_down(c: ScanCtx) -> Pass
 }
 
 // Up: the loop has popped the layer above; past its slot.
-#[tactic(auto, using(search::proofs::Laws::leaf_there_lem), unfolding(crate::specs::Moves::handle_up, cursor::specs::CursorKey::unshift, base::specs::Decline::and_then, base::specs::Pick::pick))]
+#[tactic(auto, unfolding(crate::specs::Moves::handle_up, cursor::specs::CursorKey::unshift, base::specs::Decline::and_then, base::specs::Pick::pick))]
 fn handle_up(image: &[u8], buf: &[u8; 256], c: ScanCtx) -> Result<Pass, Decline>
     requires le_offset { 8 ≤ c.cursor.offset }
     requires offset_bound { c.cursor.offset ≤ 248 }
     ensures { result ≡ handle_up image.now buf.now c }
 {
-    if !traversal::is_leaf_there(image, c.leaf) {
-        return Err(Decline::Unreadable);
-    }
-    let leaf = LeafReader {
-        image,
-        at: c.leaf as usize,
-    };
+    let leaf = traversal::leaf_at(image, c.leaf).ok_or(Decline::Unreadable)?;
     let up = c.cursor.unshift(buf);
     let position = helper::lower_with_suffix(leaf, CursorReader { place: up, buf })?;
     Ok(context::stand(c, c.leaf, up, true, 0, position))
 }
 
 // One move of the loop. Before Up the loop has popped. `tested` tells that this move is a FindNext and has tested its leaf's version: a move
-// tests it once, and the loop and the step have where they tried the fast path (docs/DECISIONS.md, S16).
+// tests it once, and the loop and the step have where they tried the fast path (docs/DECISIONS.md, S16). It is a flag and no
+// Option<LeafReader>: the leaf's place would stand twice, the clause would still say that the reader's image and place are the walk's and that a
+// leaf is there (which is more than a reader's fact), and the moves along a leaf would have to hand the reader back.
 #[tactic(auto, unfolding(crate::specs::Moves::pass_in, crate::specs::Moves::kept, crate::specs::CodeMoves::InBuffer))]
 pub fn one_move(
     image: &[u8],

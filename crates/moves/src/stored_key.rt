@@ -18,8 +18,7 @@ pub fn is_storable(s: SlotReader, offset: usize) -> bool
     match s.kind() {
         SlotKind::Inline => true,
         SlotKind::Suffix => helper::is_suffix_readable(s) && offset + 8 + s.ksuf().len <= 256,
-        SlotKind::Layer => false,
-        SlotKind::Unlisted => false,
+        SlotKind::Layer | SlotKind::Unlisted => false,
     }
 }
 

@@ -203,3 +203,8 @@ key-text s x r e =
       ap (take (length (hex_key x.key))) f ∙ take_at (hex_key x.key) ((32 ∷ []) ++ (decimal x.value ++ ((10 ∷ []) ++ r))) (length (hex_key x.key)) refl,
       omega (arith, ap length f, length-append (hex_key x.key) ((32 ∷ []) ++ (decimal x.value ++ ((10 ∷ []) ++ r)))),
     )
+
+-- What the readers' proofs rest on.
+pub ruleset word_numbers = (no_word, no-figure, no_newline, line_there)
+
+pub ruleset line_ends = (end_none, end_more, end-last)

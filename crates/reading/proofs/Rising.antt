@@ -2,7 +2,7 @@
 -- `Ascending`.
 use Rattle.std.specs.Prelude.{◌≡◌, ◌&&◌, ◌∷◌, ◌/◌, ◌%◌, ◌≤◌, ◌<◌}
 use Rattle.std.specs.Ordering.{is_lt}
-use Rattle.base.specs.Kit.{refl, sym, ap, ◌∙◌, Bool, true, false, and-eq-true_iff, List, [], ℕ, suc, arith, ltb, leb, length, ltb-true, ltb-false, leb-true, le-leb, lt-leb, leb-false}
+use Rattle.base.specs.Kit.{refl, sym, ap, ◌∙◌, Bool, true, false, and-eq-true_iff, List, [], ℕ, zero, suc, arith, ltb, leb, length, ltb-true, ltb-false, leb-true, le-leb, lt-leb, leb-false}
 use Rattle.base.proofs.Choice.{by_test}
 use Rattle.key.specs.Order.{byte_order}
 use Rattle.std.specs.declared.cmp.Ordering.{Ordering}
@@ -104,10 +104,11 @@ module _ (n : ℕ) (s t : List ℕ) (ok : Bool) where
   unfolding stations next risen
   risen_bad h = rw h
 
-pub risen_end : (s t : List ℕ) (ok : Bool) → risen t ok (stations 0 s) ≡ got ok s
+pub risen_end : (n : ℕ) (s t : List ℕ) (ok : Bool) → n ≡ 0 → risen t ok (stations n s) ≡ got ok s
 unfolding stations risen texts_rise
-risen_end s t true = refl
-risen_end s t false = refl
+risen_end zero s t true e = refl
+risen_end zero s t false e = refl
+risen_end (suc n) s t ok e = absurd (omega arith)
 
 -- KEYS THAT RISE ASCEND, each of at most 256 bytes.
 is_lt_lem : (o : Ordering) → is_lt o ≡ true → o ≡ Less

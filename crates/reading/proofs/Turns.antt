@@ -2,7 +2,7 @@
 use Rattle.std.specs.Prelude.{◌≡◌, ◌∷◌, ◌+◌, ◌*◌, ◌-◌, ◌^◌, ◌<◌, ◌≤◌, Option, None, Some}
 use Rattle.std.specs.List.{starts_with}
 use Rattle.std.proofs.lemmas.Option.{none-some, same_Some}
-use Rattle.base.specs.Kit.{refl, sym, and-false, Bool, true, false, List, [], ℕ, add-one, arith, ltb, eqb, length, length-drop, get_or, drop, set, lt-ltb, le-ltb, ltb-true, leb, leb-true, leb-false, lt-leb, take, take-length, eqb-true, eqb-false, eq-eqb, ne_eqb, sets}
+use Rattle.base.specs.Kit.{refl, sym, ap, ap₂, ◌∙◌, and-false, Bool, true, false, List, [], ℕ, add-one, arith, ltb, eqb, length, length-drop, get_or, drop, set, lt-ltb, le-ltb, ltb-true, leb, leb-true, leb-false, lt-leb, take, take-length, eqb-true, eqb-false, eq-eqb, ne_eqb, sets}
 use Rattle.base.specs.Pick.{pick}
 use Rattle.base.proofs.Choice.{pick_ind, by_test}
 use Rattle.reading.specs.Read.{Got, none, got, digit, digits, number, nibble, hex_pair, hex_byte, key_bytes}
@@ -31,9 +31,9 @@ digit_end [] h = refl
 digit_end (b ∷ s) h = absurd (omega arith)
 
 module _ (s : List ℕ) (h : 1 ≤ length s) where
-  pub digit_there : 48 ≤ get_or s 0 0 → get_or s 0 0 ≤ 57 → got (get_or s 0 0 - 48) (drop 1 s) ≡ first_digit s
+  pub digit_there : (d : ℕ) → 48 ≤ get_or s 0 0 → get_or s 0 0 ≤ 57 → d ≡ get_or s 0 0 - 48 → got d (take (length s - 1) (drop 1 s)) ≡ first_digit s
   unfolding first_digit pick
-  digit_there l u = go s h l u
+  digit_there d l u e = ap₂ got e (rest_is s 1) ∙ go s h l u
     where
       go : (s : List ℕ) → 1 ≤ length s → 48 ≤ get_or s 0 0 → get_or s 0 0 ≤ 57 → got (get_or s 0 0 - 48) (drop 1 s) ≡ first_digit s
       go [] h l u = absurd (omega arith)
@@ -74,12 +74,13 @@ module _ (d : ℕ) (r : List ℕ) where
       let g = guard-got (digit b) (got (b - 48) s) (sym e) in
       got_same (λ d r. 2 ^ 64 ≤ 10 * x + d → none ≡ digits x (b ∷ s)) g.1 (λ o. rw (g.0, le-ltb (10 * x + (b - 48)) (2 ^ 64) o))
 
-  pub digits_more : (x : ℕ) (s : List ℕ) → got d r ≡ first_digit s → 10 * x + d < 2 ^ 64 → digits (10 * x + d) r ≡ digits x s
+  pub digits_more : (x v : ℕ) (s : List ℕ) → got d r ≡ first_digit s → v ≡ 10 * x + d → v < 2 ^ 64 → digits v r ≡ digits x s
   unfolding digits first_digit pick
-  digits_more x [] e = absurd (none-got (sym e))
-  digits_more x (b ∷ s) e =
+  digits_more x v [] e k h = absurd (none-got (sym e))
+  digits_more x v (b ∷ s) e k h =
       let g = guard-got (digit b) (got (b - 48) s) (sym e) in
-      got_same (λ d r. 10 * x + d < 2 ^ 64 → digits (10 * x + d) r ≡ digits x (b ∷ s)) g.1 (λ o. rw (g.0, lt-ltb (10 * x + (b - 48)) (2 ^ 64) o))
+      let l : 10 * x + d < 2 ^ 64 = omega arith in
+      rw k (got_same (λ d r. 10 * x + d < 2 ^ 64 → digits (10 * x + d) r ≡ digits x (b ∷ s)) g.1 (λ o. rw (g.0, lt-ltb (10 * x + (b - 48)) (2 ^ 64) o)) l)
 
   pub number-zero : (s : List ℕ) → got d r ≡ first_digit s → d ≡ 0 → got d r ≡ number s
   unfolding number first_digit pick
@@ -133,14 +134,14 @@ no_low (b ∷ []) h e = absurd (omega arith)
 no_low (b ∷ c ∷ s) h e = rw (none_hex c (sym e), and-false (ltb (nibble b) 16))
 
 pub hex_both : (s : List ℕ) (n m : ℕ) → 2 ≤ length s → Some n ≡ hex_digit_seen (get_or s 0 0) → Some m ≡ hex_digit_seen (get_or s 1 0)
-    → got (16 * n + m) (drop 2 s) ≡ hex_byte s
+    → got (16 * n + m) (take (length s - 2) (drop 2 s)) ≡ hex_byte s
 unfolding hex_byte hex_pair pick
 hex_both [] n m h e f = absurd (omega arith)
 hex_both (b ∷ []) n m h e f = absurd (omega arith)
 hex_both (b ∷ c ∷ s) n m h e f =
     let g = some_hex b n (sym e) in
     let k = some_hex c m (sym f) in
-    rw (g.0, k.0, g.1, k.1)
+    ap (got (16 * n + m)) (rest_is (b ∷ c ∷ s) 2) ∙ rw (g.0, k.0, g.1, k.1)
 
 pub hex_shorter : (s : List ℕ) (b : ℕ) (r : List ℕ) → got b r ≡ hex_byte s → length r + 2 ≡ length s
 unfolding hex_byte
@@ -185,3 +186,10 @@ word_is (x ∷ w) (b ∷ s) =
     by_test (eqb b x)
     (λ t. rw (t, eq-eqb x b (sym (eqb-true b x t))) (word_is w s))
     (λ f. rw (f, ne_eqb x b (λ e. eqb-false b x f (sym e))))
+
+-- What the readers' proofs rest on.
+pub ruleset digit_turns = (digits-stop, digits_over, digits_more, digit_shorter)
+
+pub ruleset numbers = (number-stop, number-zero, number_more)
+
+pub ruleset hex_turns = (hex-short, no_high, no_low, hex_both, hex_small)

@@ -4,6 +4,7 @@ use Rattle.base.specs.Kit.{refl, ap, sym, ◌∙◌, Bool, true, false, max, Lis
 use Rattle.base.specs.Pick.{pick}
 use Rattle.base.specs.declared.Decline.{Decline}
 use Rattle.base.specs.declared.Decline.TheVariants.{SheetForm, SheetOrder}
+use Rattle.base.proofs.Count.{left-more}
 use Rattle.base.proofs.Declines.{handed_on}
 use Rattle.layering.specs.Keys.{Pair}
 use Rattle.sheet.specs.Sheet.{hex_key, first_line}
@@ -15,8 +16,8 @@ use Rattle.reading.specs.declared.Line.{Line}
 use Rattle.reading.specs.declared.Opened.{Opened}
 use Rattle.reading.proofs.Gets.{none-got}
 use Rattle.reading.proofs.Sheets.{head-text, stations-text}
-use Rattle.reading.proofs.Rising.{texts_rise_lem, risen-more}
-use Rattle.reading.proofs.Pairs.{line-got}
+use Rattle.reading.proofs.Rising.{texts_rise_lem, risen-more, risen_bad, risen_end}
+use Rattle.reading.proofs.Pairs.{line-got, line-none}
 use Rattle.reading.proofs.Lines.{text-length, text_double, key-text}
 
 -- A STATION PASSED, at the front of a text: its key's text, and what it adds.
@@ -98,3 +99,8 @@ module _ (s : List ℕ) where
 
     pub head-inside : length r ≤ length s
     head-inside = omega (arith, ap length (head-text s (sym H)).0, length-append (first_line n) r)
+
+-- What the readers of stations and of a sheet rest on.
+pub ruleset station_rules = (line-none, risen_bad, risen_end, left-more)
+
+pub ruleset sheets = (form_handed, no_head, no-stations, no_end, not_rising, all-good, head-inside)

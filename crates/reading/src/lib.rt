@@ -36,6 +36,7 @@ pub struct Opened {
 }
 
 /// A sheet read whole; what is not in the form is told of before keys that do not rise.
+#[tactic(auto, unfolding(crate::specs::Read::read_head, crate::specs::Read::first_word), using(crate::proofs::Whole::sheets))]
 pub fn read_sheet(s: &[u8]) -> Result<Opened, Decline>
     ensures { result ≡ opened (read_sheet s.now) }
 {
@@ -53,6 +54,7 @@ pub fn read_sheet(s: &[u8]) -> Result<Opened, Decline>
 
 // As many station lines as the count says: whether their keys rise. Lower-case hex has the order of the bytes, so that
 // two keys are compared by their texts where they stand; behind one that does not rise none is compared.
+#[tactic(auto, using(crate::proofs::Whole::station_rules))]
 fn stations(text: &[u8], count: u64) -> Option<Found<bool>>
     ensures { found_seen result ≡ risen [] Bool.true (stations count text.now) }
 {
@@ -60,8 +62,7 @@ fn stations(text: &[u8], count: u64) -> Option<Found<bool>>
     let mut before: &[u8] = &[];
     let mut rising = true;
     for _ in 0..count {
-        let mut scratch = [0u8; 1];
-        let line = station_at(rest, 0, &mut scratch)?;
+        let line = station_at(rest, 0, &mut [])?;
         let key = first(rest, (2 * line.key_len).max(1));
         rising = rising && follows(before, key);
         before = key;
@@ -81,7 +82,9 @@ fn follows(before: &[u8], text: &[u8]) -> bool
     text.len() <= 512 && compare(before, text).is_lt()
 }
 
-// The end line, with nothing behind it.
+// The end line, with nothing behind it. (It answers the figure, which no one reads: so its clause is the definition's own equation, where a
+// bool's would want a definition more.)
+#[tactic(auto, unfolding(crate::specs::Read::end_word), using(crate::proofs::Lines::line_ends))]
 fn end(text: &[u8]) -> Option<Found<u64>>
     ensures { found_seen result ≡ read_end text.now }
 {
@@ -123,6 +126,7 @@ fn key<'a>(text: &'a [u8], buf: &mut [u8]) -> Option<Found<'a, usize>>
 }
 
 // How many bytes of a key stand there. As many as fit are left in the buffer.
+#[tactic(auto, using(crate::proofs::Turns::hex_shorter, crate::proofs::Turns::run_more, crate::proofs::Turns::run_none, crate::proofs::Turns::stored_more))]
 fn key_bytes<'a>(text: &'a [u8], buf: &mut [u8]) -> Found<'a, usize>
     ensures { RunRead text.now buf.old buf.new result }
 {
@@ -138,6 +142,7 @@ fn key_bytes<'a>(text: &'a [u8], buf: &mut [u8]) -> Found<'a, usize>
 }
 
 // A byte stored where there is room for it.
+// (Tried: by `get_mut`, behind whose loan nothing is known of the buffer's bytes; the proof did not close.)
 fn store(buf: &mut [u8], n: usize, b: u8)
     ensures { buf.new ≡ set buf.old n b }
 {
@@ -147,6 +152,7 @@ fn store(buf: &mut [u8], n: usize, b: u8)
 }
 
 // A byte as two hex digits.
+#[tactic(auto, using(crate::proofs::Turns::rest_is, crate::proofs::Turns::hex_turns))]
 fn hex_byte(text: &[u8]) -> Option<Found<u8>>
     ensures { found_seen result ≡ hex_byte text.now }
 {
@@ -170,6 +176,7 @@ fn hex_digit(b: u8) -> Option<u8>
 }
 
 // A word, a decimal and a newline.
+#[tactic(auto, using(crate::proofs::Lines::word_numbers))]
 fn word_number<'a>(text: &'a [u8], word: &[u8]) -> Option<Found<'a, u64>>
     ensures { found_seen result ≡ word_number word.now text.now }
 {
@@ -182,6 +189,7 @@ fn word_number<'a>(text: &'a [u8], word: &[u8]) -> Option<Found<'a, u64>>
 }
 
 // The text behind a word.
+#[tactic(auto, using(crate::proofs::Turns::rest_is, crate::proofs::Turns::word_is))]
 fn behind<'a>(text: &'a [u8], word: &[u8]) -> Option<&'a [u8]>
     ensures there { IfSome result (λ rest. (word_at word.now text.now ≡ Bool.true) × (rest.now ≡ drop (length word.now) text.now)) }
     ensures other { IfNone result (word_at word.now text.now ≡ Bool.false) }
@@ -193,6 +201,7 @@ fn behind<'a>(text: &'a [u8], word: &[u8]) -> Option<&'a [u8]>
 }
 
 // A decimal.
+#[tactic(auto, using(crate::proofs::Turns::numbers))]
 fn number(text: &[u8]) -> Option<Found<u64>>
     ensures { found_seen result ≡ number text.now }
 {
@@ -204,6 +213,7 @@ fn number(text: &[u8]) -> Option<Found<u64>>
 }
 
 // The digits that stand there, behind those that say x.
+#[tactic(auto, using(crate::proofs::Turns::digit_turns))]
 fn digits(text: &[u8], x: u64) -> Option<Found<u64>>
     ensures { found_seen result ≡ digits x text.now }
 {
@@ -218,6 +228,7 @@ fn digits(text: &[u8], x: u64) -> Option<Found<u64>>
 }
 
 // A decimal digit's number.
+#[tactic(auto, using(crate::proofs::Turns::rest_is, crate::proofs::Turns::digit_there, crate::proofs::Turns::digit_other, crate::proofs::Turns::digit_end))]
 fn digit(text: &[u8]) -> Option<Found<u64>>
     ensures { found_seen result ≡ first_digit text.now }
 {

@@ -1,23 +1,19 @@
 -- A step on a record in place: the record with the next slot's key in it is the record's step.
 use Rattle.std.specs.Prelude.{◌≡◌, ◌+◌, ◌≤◌, Some, None, Ok}
-use Rattle.base.specs.Kit.{refl, sym, ◌∙◌, ap, true, false, List, ℕ, arith, length, get_or}
+use Rattle.base.specs.Kit.{refl, sym, ◌∙◌, ap, true, false, List, [], ℕ, arith, length, get_or}
 use Rattle.base.specs.Pick.{pick}
 use Rattle.base.specs.Decline.{decline_number}
 use Rattle.key.specs.Part.{part}
-use Rattle.node.specs.Layout.{InSlot}
 use Rattle.record_step.specs.Types.{Slot, CursorPlace, HandedKey, HandedOut, Walk, WalkState, FindNext, Ended, Decline}
 use Rattle.cursor.specs.CursorKey.{with_ikey, with_length}
 use Rattle.search.specs.Traversal.{leaf_there}
-use Rattle.moves.specs.Moves.{onward, is_storable, key_place, key_buf}
-use Rattle.moves.specs.CodeMoves.{InRange}
+use Rattle.moves.specs.Moves.{onward, key_place, key_buf}
 use Rattle.moves.specs.CodeFastPath.{fast_slot, next_of}
-use Rattle.search.proofs.Laws.{leaf_there_lem}
-use Rattle.moves.proofs.FastLaws.{fast_facts}
 use Rattle.walk.specs.Walk.{one_more, walk_ok, answer_numbers}
 use Rattle.scan.specs.Machine.{is_ended, key_out, ctx_of, walk_of, after_key}
 use Rattle.scan.specs.CodeLoop.{no_leaf}
 use Rattle.walk.proofs.NumberLaws.{walk-fits}
-use Rattle.scan.proofs.BeginLaws.{in_range_lem, step_advances}
+use Rattle.scan.proofs.BeginLaws.{step_advances}
 use Rattle.scan.proofs.StepLaws as step
 use Rattle.walk_record.specs.Record.{leaf_at, position_at, offset_at, depth_at, kind_at, bound_len_at, state_at, count_at, state_number, state_of, numbers_of, read_walk, is_record}
 use Rattle.walk_record.specs.CodeLaid.{read_handed}
@@ -37,15 +33,25 @@ put_in : (w : Walk) (k : CursorPlace) (b : List ℕ) (state : WalkState) (handed
 unfolding key_numbers numbers_of onward
 put_in w k b state handed e = rw e
 
--- What the code asks of a record whose walk's next slot is fast.
-pub record Steppable (n image : List ℕ) (slot : Slot) : Type 0 where
-  pub in_slot : InSlot image (get_or n leaf_at 0) slot
+-- The numbers of a record that are in range, over an image of some bytes.
+pub record InNumbers (n : List ℕ) (bytes : ℕ) : Type 0 where
   pub offset-fits : get_or n offset_at 0 ≤ 248
-  pub storable : is_storable image (get_or n leaf_at 0) slot (get_or n offset_at 0) ≡ true
   pub position-fits : get_or n position_at 0 ≤ 15
   pub kind_fits : get_or n kind_at 0 ≤ 2
   pub bound-fits : get_or n bound_len_at 0 ≤ 256
-  pub count_fits : get_or n count_at 0 ≤ length image
+  pub count_fits : get_or n count_at 0 ≤ bytes
+
+pub in_numbers : (n : List ℕ) (bytes : ℕ) → numbers_ok n bytes ≡ true → InNumbers n bytes
+unfolding numbers_ok read_walk
+in_numbers n bytes ok =
+    let o = walk-fits (read_walk n [] []) bytes ok in
+    record {
+      offset-fits = omega (arith, o.offset-is, o.depth-fits);
+      position-fits = o.position-fits;
+      kind_fits = o.kind_fits;
+      bound-fits = o.bound-fits;
+      count_fits = o.count_fits;
+    }
 
 -- A RECORD WHOSE WALK HAS HANDED OUT A KEY, and whose numbers are in range.
 module _ (n b k image : List ℕ) (is : is_record n b k ≡ true) (ok : numbers_ok n (length image) ≡ true) (next : get_or n state_at 0 ≡ state_number FindNext) where
@@ -59,29 +65,6 @@ module _ (n b k image : List ℕ) (is : is_record n b k ≡ true) (ok : numbers_
   pub walk_ok_lem : walk_ok w (length image) ≡ true
   unfolding numbers_ok walk_ok read_walk
   walk_ok_lem = ok
-
-  in-numbers : InRange w.depth (ctx_of w)
-  in-numbers = in_range_lem w _ walk_ok_lem
-
-  pub offset_low : get_or n offset_at 0 ≤ 248
-  unfolding read_walk
-  offset_low = omega (arith, in-numbers.place, in-numbers.deep)
-
-  module _ (there : leaf_there image (get_or n leaf_at 0) ≡ true) (slot : Slot) (e : fast_slot image (get_or n leaf_at 0) (record { 0 = get_or n position_at 0 }) (place_of n) ≡ Some slot) where
-    pub ready : Steppable n image slot
-    unfolding read_walk
-    ready =
-        let f = fast_facts _ _ _ _ _ e in
-        let o = walk-fits w _ walk_ok_lem in
-        record {
-          in_slot = (omega (arith, leaf_there_lem image _ there), f.fifteen);
-          offset-fits = offset_low;
-          storable = f.storable;
-          position-fits = o.position-fits;
-          kind_fits = o.kind_fits;
-          bound-fits = o.bound-fits;
-          count_fits = o.count_fits;
-        }
 
   module _ (out : List ℕ) (said_fits : length out ≡ said_in) where
     -- its leaf is not there

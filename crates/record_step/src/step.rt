@@ -1,14 +1,13 @@
 // A step of a record. Most hand out the next slot's key: they are made on the record where it is, by moves' fast path, and no walk is
 // built for them.
-ghost use Rattle.std.specs.Prelude.{◌≡◌, Some};
+ghost use Rattle.std.specs.Prelude.{◌≡◌};
 ghost use Rattle.base.specs.Kit.{true, length, get_or};
 ghost use Rattle.search.specs.Traversal.{leaf_there};
-ghost use Rattle.moves.specs.CodeFastPath.{fast_slot};
 ghost use Rattle.record_step.specs.Types.{FindNext};
 ghost use Rattle.walk.specs.Walk.{walk_ok};
 ghost use Rattle.scan.specs.Machine.{step};
-ghost use Rattle.walk_record.specs.Record.{leaf_at, position_at, state_at, state_number, is_readable};
-ghost use Rattle.record_step.specs.CodeInPlace.{numbers_ok, place_of};
+ghost use Rattle.walk_record.specs.Record.{leaf_at, state_at, state_number, is_readable};
+ghost use Rattle.record_step.specs.CodeInPlace.{numbers_ok};
 ghost use Rattle.record_step.specs.CodeStep.{number_made, StepMade};
 
 use crate::in_place;
@@ -16,8 +15,7 @@ use base::Decline;
 use cursor::range_bound::End;
 use moves::fast_path::HandedKey;
 use moves::{fast_path, stored_key};
-use node::leaf::{LeafReader, SlotReader};
-use node::permuter::{Position, Slot};
+use node::permuter::Position;
 use scan::forward_ctx;
 use search::traversal;
 use walk::answer;
@@ -59,32 +57,33 @@ fn step_walk(
     Ok(())
 }
 
-// The step that hands out a fast slot's key, or ends by it: the key goes into the buffer, and the numbers are changed in place.
-fn step_fast(
+// The step of a record whose walk has handed out a key. Most hand out the next slot's key, or end by it: the key goes into the buffer, and the
+// numbers are changed in place.
+#[tactic(auto, using(crate::proofs::InPlace::in_numbers))]
+fn step_next(
     numbers: &mut [u64; layout::NUMBERS],
     buf: &mut [u8; 256],
     bound: &[u8; 256],
     image: &[u8],
     out: &mut [u64; 6],
-    slot: Slot,
-)
+) -> Result<(), Decline>
     requires numbers_readable { is_readable numbers.old ≡ true }
     requires image_value { numbers_ok numbers.old (length image.now) ≡ true }
     requires state_at_value { get_or numbers.old state_at 0 ≡ state_number FindNext }
-    requires leaf_at_value { leaf_there image.now (get_or numbers.old leaf_at 0) ≡ true }
-    requires numbers_value { fast_slot image.now (get_or numbers.old leaf_at 0) (record { 0 = get_or numbers.old position_at 0 }) (place_of numbers.old) ≡ Some slot }
-    ensures { StepMade numbers.old buf.old bound.now image.now out.old 0 numbers.new buf.new out.new }
+    ensures { StepMade numbers.old buf.old bound.now image.now out.old (number_made result) numbers.new buf.new out.new }
 {
+    let Some(leaf) = traversal::leaf_at(image, numbers[layout::LEAF]) else {
+        return Err(forward_ctx::no_leaf(image.len()));
+    };
     let k = in_place::place_of(numbers);
+    let position = Position(numbers[layout::POSITION] as usize);
+    let Some(s) = fast_path::fast_slot(leaf, position, k) else {
+        return step_walk(numbers, buf, bound, image, out, true);
+    };
     let end = End {
         kind: numbers[layout::KIND] as u8,
         key: key::part_of(bound, 0, numbers[layout::BOUND_LEN] as usize),
     };
-    let leaf = LeafReader {
-        image,
-        at: numbers[layout::LEAF] as usize,
-    };
-    let s = SlotReader { leaf, slot };
     let stored = stored_key::store_key(s, buf, k);
     match fast_path::hand_out(s, end, buf, stored) {
         Some(HandedKey { value, last }) => {
@@ -100,37 +99,7 @@ fn step_fast(
             out.copy_from_slice(&answer::answer_numbers(Ok(None), 1, handed));
         }
     }
-}
-
-// The step of a record whose walk has handed out a key.
-fn step_next(
-    numbers: &mut [u64; layout::NUMBERS],
-    buf: &mut [u8; 256],
-    bound: &[u8; 256],
-    image: &[u8],
-    out: &mut [u64; 6],
-) -> Result<(), Decline>
-    requires numbers_readable { is_readable numbers.old ≡ true }
-    requires image_value { numbers_ok numbers.old (length image.now) ≡ true }
-    requires state_at_value { get_or numbers.old state_at 0 ≡ state_number FindNext }
-    ensures { StepMade numbers.old buf.old bound.now image.now out.old (number_made result) numbers.new buf.new out.new }
-{
-    if !traversal::is_leaf_there(image, numbers[layout::LEAF]) {
-        return Err(forward_ctx::no_leaf(image.len()));
-    }
-    let k = in_place::place_of(numbers);
-    let leaf = LeafReader {
-        image,
-        at: numbers[layout::LEAF] as usize,
-    };
-    let position = Position(numbers[layout::POSITION] as usize);
-    match fast_path::fast_slot(leaf, position, k) {
-        None => step_walk(numbers, buf, bound, image, out, true),
-        Some(slot) => {
-            step_fast(numbers, buf, bound, image, out, slot);
-            Ok(())
-        }
-    }
+    Ok(())
 }
 
 // A step of a record that a walk can be read of.

@@ -86,8 +86,10 @@ impl Record {
             let value = le::u64_at(change, 2);
             if let Some(number) = self.numbers.get_mut(index) {
                 *number = value;
-            } else if BUFFER <= index && index - BUFFER < self.buf.len() {
-                self.buf[index - BUFFER] = (value % 256) as u8;
+            } else if let Some(at) = index.checked_sub(BUFFER)
+                && let Some(byte) = self.buf.get_mut(at)
+            {
+                *byte = (value % 256) as u8;
             }
         }
     }
@@ -217,16 +219,14 @@ fn answer(rt: &impl Print, request: &Request<Form>, changes: &[u8]) {
 }
 
 fn main(rt: HostRuntime) {
-    let mut input = rt.reader();
-    let mut space = [0u8; requests::SPACE];
     let mut changes = [0u8; CHANGES];
-    for _ in 0..MOST {
-        let Some(request) = requests::read(&mut input, &mut space) else {
-            return;
-        };
-        let Some(changes) = requests::field(&mut input, 2, &mut changes) else {
-            return;
-        };
-        answer(&rt, &request, changes);
-    }
+    requests::each(
+        &mut rt.reader(),
+        MOST,
+        &mut |request, input| {
+            let changes = requests::field(input, 2, &mut changes)?;
+            answer(&rt, request, changes);
+            Some(())
+        },
+    );
 }

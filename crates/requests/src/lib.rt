@@ -2,17 +2,18 @@
 // bound's kind, a byte each; the cursor's length in two bytes and the cursor; the bound key's likewise and the key; the image's length
 // in four and the image. What a program reads behind it, it reads by `field`.
 //
-// What is read stands in a space that the caller lends: there is no heap. A read that fails counts as the input's end, as does a length
-// whose bytes the space cannot hold; a name is any bytes.
+// What is read stands in a space that is lent: there is no heap. A read that fails counts as the input's end, as does a length whose bytes
+// the space cannot hold; a name is any bytes.
 //
-// Interface: `read`, with `Request` and `Mode`, and `field`; `line`, which prints, and `KeyText`, which shows a key. specs/Requests.antt has
-// what holds of what is read, the input itself being free. None has a `requires`.
+// Interface: `each`, the loop over them, which asks that its closure may be called at what it reads; `read`, with `Request` and `Mode`, and
+// `field`; `line`, which prints; `Hex` and `KeyText`, which show bytes and a key. These have no `requires`. specs/Requests.antt has what holds
+// of what is read and of the calls, the input itself being free.
 #![tactic(auto)]
 
-ghost use Rattle.std.specs.Prelude.{◌≡◌, ◌≤◌, IfSome, length};
-ghost use Rattle.requests.specs.Requests.{NamesMode, Fits};
+ghost use Rattle.std.specs.Prelude.{◌≡◌, ◌≤◌, IfSome, Some, length};
+ghost use Rattle.sheet.specs.Sheet.{hex_bytes, hex_key};
+ghost use Rattle.requests.specs.Requests.{NamesMode, Fits, Asked, Answered};
 
-use sheet::LINE;
 use std::fmt;
 use std::io::Read;
 
@@ -75,7 +76,6 @@ pub fn field<'a>(input: &mut impl Read, width: usize, space: &'a mut [u8]) -> Op
 }
 
 /// The next request of the input, in the space that is lent: 256 bytes for its name, 512 for each key, and the rest for its image.
-// (Each program has its own loop over it: an iterator hands out no slices of a space that is lent.)
 pub fn read<'a, F: From<u8>>(input: &mut impl Read, space: &'a mut [u8]) -> Option<Request<'a, F>>
     ensures { IfSome result (Fits F (length space.old)) }
 {
@@ -100,26 +100,62 @@ pub fn read<'a, F: From<u8>>(input: &mut impl Read, space: &'a mut [u8]) -> Opti
     })
 }
 
+/// Calls `answer` at each request of the input, `most` times at most; a call that gives `None` is the last. It has the input too, and may read
+/// what stands behind its request.
+// (The closure is lent, so that what it has become says how it was called. An iterator hands out no slices of a space that is lent.)
+#[tactic(auto, using(crate::proofs::Answering::at_end))]
+pub fn each<F: From<u8> + Drop, R: Read, A: FnMut(&Request<F>, &mut R) -> Option<()>>(
+    input: &mut R,
+    most: usize,
+    answer: &mut A,
+)
+    requires { (f : _) (request : _) (rest : _) → Fits F SPACE request.now → A.pre f request rest }
+    ensures { Answered (Asked A.FnMut SPACE) most answer.old answer.new }
+{
+    let mut space = [0u8; SPACE];
+    for _ in 0..most {
+        let Some(request) = read(input, &mut space) else {
+            return;
+        };
+        if answer(&request, input).is_none() {
+            return;
+        }
+    }
+}
+
 /// Prints a line of a name and the rest; a write that fails is passed over.
 pub fn line(rt: &impl Print, name: &[u8], rest: impl fmt::Display + Drop) {
     let _ = rt.write_all(name);
     let _ = rt.println(rest);
 }
 
-/// A key in hex, `-` for none, as a sheet's line has it: cut from such a line, so that a key is written in hex in one place alone.
+/// Bytes in hex, two digits each, as a sheet has them.
+#[derive(Drop)]
+pub struct Hex<'a>(pub &'a [u8]);
+
+impl fmt::Display for Hex<'_> {
+    ghost output = { λ h. Some (hex_bytes h.0.now) };
+
+    fn fmt<W: fmt::Write>(&self, f: &mut fmt::Formatter<W>) -> fmt::Result {
+        for &byte in self.0 {
+            write!(f, "{byte:02x}")?;
+        }
+        Ok(())
+    }
+}
+
+/// A key in hex, `-` for the empty one, as a sheet has it.
 #[derive(Drop)]
 pub struct KeyText<'a>(pub &'a [u8]);
 
 impl fmt::Display for KeyText<'_> {
+    ghost output = { λ k. Some (hex_key k.0.now) };
+
+    #[tactic(auto, using(sheet::proofs::Hex::hex_key_none, sheet::proofs::Hex::hex_key_some))]
     fn fmt<W: fmt::Write>(&self, f: &mut fmt::Formatter<W>) -> fmt::Result {
-        let mut line = [0u8; LINE];
-        let n = sheet::pair_line(&mut line, self.0, 0);
-        // The line ends in a space, a digit and a newline.
-        if 3 <= n {
-            for byte in key::first(&line, n - 3) {
-                f.write_char(char::from(*byte))?;
-            }
+        if self.0.is_empty() {
+            return f.write_str("-");
         }
-        Ok(())
+        write!(f, "{}", Hex(self.0))
     }
 }

@@ -1,6 +1,6 @@
 -- Where a step begins: a walk that passes the test of its numbers has them in range before its first move; and what a step comes to by
 -- that test and by the walk's state.
-use Rattle.std.specs.Prelude.{◌≡◌, ◌<◌, ◌^◌, None, Ok}
+use Rattle.std.specs.Prelude.{◌≡◌, ◌≤◌, ◌<◌, ◌^◌, None, Ok}
 use Rattle.base.specs.Kit.{true, false, List, ℕ, arith, length}
 use Rattle.base.specs.Pick.{pick}
 use Rattle.scan.specs.Types.{ScanCtx, Walk, WalkRange, StartMode, WalkState, WalkStateStart as Start, WalkStateRetry as Retry, WalkStateFindNext as FindNext, Ended}
@@ -21,6 +21,9 @@ pub in_range_lem : (w : Walk) (n : ℕ) → walk_ok w n ≡ true → InRange w.d
 in_range_lem w n e =
     let o = walk-fits w n e in
     record { place = o.offset-is; deep = o.depth-fits; within = o.end_fits; position = o.position-fits }
+
+pub bound_fits : (w : Walk) (n : ℕ) → walk_ok w n ≡ true → w.bound.len ≤ 256
+bound_fits w n e = let o = walk-fits w n e in omega arith
 
 -- and its count can be raised
 pub raised : (w : Walk) (n : ℕ) → walk_ok w n ≡ true → n < 2 ^ 63 → w.handed.count < 2 ^ 63

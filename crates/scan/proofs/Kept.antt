@@ -21,15 +21,15 @@ module _ (image : List ℕ) (kind : ℕ) (bound : List ℕ) where
     pub len_is : len ≡ s.ctx.cursor.offset + s.ctx.cursor.len
     pub last-is : last ≡ at_end kind bound (take len s.buf)
 
-  -- Where the loop goes on, its numbers are in range.
-  abbrev Going : Result Outcome Decline → Held → Type 0
+  -- Where the loop goes on, its numbers are in range; behind a key it may.
+  abbrev pub Going : Result Outcome Decline → Held → Type 0
   Going (Ok Continue) s = Between s.ctx.state s.ctx
   Going (Ok (Push root)) s = Between s.ctx.state s.ctx
-  Going (Ok (Emit value last)) s = IsOut (s.ctx.cursor.offset + s.ctx.cursor.len) last s
+  Going (Ok (Emit value last)) s = IsOut (s.ctx.cursor.offset + s.ctx.cursor.len) last s × Between s.ctx.state s.ctx
   Going (Ok Exhausted) s = Unit {0}
   Going (Err d) s = Unit {0}
 
-  abbrev Kept : Moved → Type 0
+  abbrev pub Kept : Moved → Type 0
   Kept m = Going m.outcome m.scan × Long m.scan
 
   -- a pass, and the layer that it found
@@ -38,7 +38,8 @@ module _ (image : List ℕ) (kind : ℕ) (bound : List ℕ) where
   unfolding pushing
   pushed Continue c buf stack h o l t = (h, (l, t))
   pushed (Push root) c buf stack h o l t = (entered_in_range c _ refl refl c.state h.0 h.1 refl, (l, simp length-set t))
-  pushed (Emit value last) c buf stack h o l t = (record { in_range_lem = h.1; len_is = refl; last-is = o }, (l, t))
+  pushed (Emit value last) c buf stack h o l t =
+      ((record { in_range_lem = h.1; len_is = refl; last-is = o }, subst (λ (x : ScanState). Between x c) (sym h.0) h.1), (l, t))
   pushed Exhausted c buf stack h o l t = (tt, (l, t))
 
   passed : (s : Held) (buf : List ℕ) (r : Result Pass Decline) → Good r → Passes kind bound buf r → length buf ≡ 256 → Long s → Kept (passed_by s buf r)
@@ -64,7 +65,7 @@ module _ (image : List ℕ) (kind : ℕ) (bound : List ℕ) where
         let m = move_in_range s.ctx.state image kind bound s.buf (popped s.ctx s.stack) p l.0 in
         rw (up_is image kind bound s u d) (passed _ _ _ m.0 (move_told kind bound s.ctx.state image s.buf (popped s.ctx s.stack)) m.1 (l.0, unstacked-length))
 
-    move-kept : (b : Bool) → is_up s.ctx.state ≡ b → Kept (move image kind bound s)
+    pub move-kept : (b : Bool) → is_up s.ctx.state ≡ b → Kept (move image kind bound s)
     move-kept true u = from_up u (eqb s.ctx.depth 0) refl
     move-kept false u =
         let r = move_in_range s.ctx.state image kind bound s.buf s.ctx (not_up s.ctx.state s.ctx (other_state s.ctx.state u) h) l.0 in
@@ -84,7 +85,7 @@ module _ (image : List ℕ) (kind : ℕ) (bound : List ℕ) where
   unfolding after
   after_kept (Ok Continue) moves s rest h l f = f h
   after_kept (Ok (Push root)) moves s rest h l f = f h
-  after_kept (Ok (Emit value last)) moves s rest h l f = (h, l)
+  after_kept (Ok (Emit value last)) moves s rest h l f = (h.0, l)
   after_kept (Ok Exhausted) moves s rest h l f = (tt, l)
   after_kept (Err d) moves s rest h l f = (tt, l)
 

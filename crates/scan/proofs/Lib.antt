@@ -4,9 +4,10 @@ pub mod MoveLaws
 pub mod RunLaws
 pub mod FastMove
 pub mod AlongLaws
+pub mod MakeMove
+pub mod Kept
 pub mod LoopLaws
 pub mod StepLaws
-pub mod Kept
 pub mod AtEnd
 pub mod Carries
 pub mod ByRule01

@@ -5,14 +5,19 @@ use Rattle.base.specs.Kit.{Bool, true, false, not, List, ℕ, zero, suc, eqb, le
 use Rattle.base.specs.Pick.{pick}
 use Rattle.search.specs.Traversal.{leaf_there}
 use Rattle.moves.specs.CodeMoves.{InRange}
-use Rattle.scan.specs.Types.{Held, ScanState, ScanStateStart as Start, ScanStateRetry as Retry, ScanStateFindNext as FindNext, Down, Up, ScanCtx, Outcome, Continue, Push, Emit, Exhausted, LayerContext, WalkStateFindNext as Next, Walk, Answer, Decline, Unreadable, MovesSpent, Along, Ending, Advanced}
+use Rattle.scan.specs.Types.{Held, ScanState, ScanStateStart as Start, ScanStateRetry as Retry, ScanStateFindNext as FindNext, Down, Up, ScanCtx, Outcome, Continue, Push, Emit, Exhausted, Pass, LayerContext, WalkStateFindNext as Next, Walk, Answer, Decline, Unreadable, MovesSpent, Along, Ending, Advanced}
 use Rattle.walk.specs.Walk.{walk_ok}
-use Rattle.scan.specs.Machine.{move, Ran, is_ended, scan_of, key_out, finished}
+use Rattle.scan.specs.Machine.{Moved, move, Ran, is_ended, scan_of, key_out, finished}
 
 -- What the loop asks of its walk: its numbers are in range; and where `tested` tells that the first move has tested its leaf's version, that
 -- move is a FindNext, and the leaf is there.
 abbrev pub Begun : Walk → List ℕ → Bool → Type 0
 Begun w image tested = (walk_ok w (length image) ≡ true) × (tested ≡ true → (w.state ≡ Next) × (leaf_there image w.leaf ≡ true))
+
+-- A move as a function makes it, which holds h after it, is the machine's m; where it is declined, what is held is not told.
+abbrev pub MadeAs : Moved → Result Pass Decline → Held → Type 0
+MadeAs m (Ok p) h = m ≡ record { outcome = Ok p.outcome; scan = record { ctx = p.ctx; buf = h.buf; stack = h.stack } }
+MadeAs m (Err d) h = m.outcome ≡ Err d
 
 -- THE LOOP ITSELF, which goes to the next key (a step), or past every key (`whole`: a count). How many keys are out after a move, n
 -- before it.

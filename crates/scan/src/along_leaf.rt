@@ -8,7 +8,6 @@ use base::Decline;
 use cursor::range_bound::End;
 use moves::context::{ScanCtx, ScanState};
 use moves::{context, fast_path, stored_key};
-use node::leaf::{LeafReader, SlotReader};
 use search::traversal;
 use walk::scan_state::Answer;
 
@@ -61,17 +60,12 @@ pub fn along_leaf(
     let mut c = start;
     for moves in done..image.len() {
         let keys = found + (moves - done);
-        if !traversal::is_leaf_there(image, c.leaf) {
+        let Some(leaf) = traversal::leaf_at(image, c.leaf) else {
             return ended_by(Some(Err(Decline::Unreadable)), c, keys, moves + 1);
-        }
-        let leaf = LeafReader {
-            image,
-            at: c.leaf as usize,
         };
-        let Some(slot) = fast_path::fast_slot(leaf, c.position, c.cursor) else {
+        let Some(s) = fast_path::fast_slot(leaf, c.position, c.cursor) else {
             return ended_by(None, c, keys, moves);
         };
-        let s = SlotReader { leaf, slot };
         let stored = stored_key::store_key(s, buf, c.cursor);
         c = context::go_on(c, stored, stored.ikey);
         let Some(handed) = fast_path::hand_out(s, end, buf, stored) else {

@@ -3,13 +3,17 @@
 ghost use Rattle.std.specs.Prelude.{◌≡◌, ◌+◌, ◌^◌, ◌≤◌, ◌<◌};
 ghost use Rattle.base.specs.Kit.{true, false, length};
 ghost use Rattle.walk.specs.Walk.{walk_ok};
-ghost use Rattle.scan.specs.Machine.{scan_of, after_key, key_out, declined_with, stepped, advance};
-ghost use Rattle.scan.specs.CodeLoop.{Begun, ending_with, run_with, no_leaf, advance_by, advanced_of, keys_ahead};
+ghost use Rattle.search.specs.Traversal.{leaf_there};
+ghost use Rattle.moves.proofs.Laws.{Between};
+ghost use Rattle.scan.specs.Types.{ScanStateFindNext as FindNext};
+ghost use Rattle.scan.specs.Machine.{scan_of, move, after_key, key_out, declined_with, stepped, advance};
+ghost use Rattle.scan.specs.CodeLoop.{Begun, MadeAs, ending_with, run_with, no_leaf, advance_by, advanced_of, keys_ahead};
 
 use crate::scan_ctx::Held;
 use crate::{along_leaf, scan_ctx};
 use base::Decline;
-use moves::context::{Outcome, ScanCtx, ScanState};
+use cursor::range_bound::End;
+use moves::context::{Outcome, Pass, ScanCtx, ScanState};
 use walk::handed_out;
 use walk::scan_state::{Answer, KeyOut, Stepped, Walk, WalkState};
 
@@ -22,7 +26,8 @@ pub struct Advanced {
 
 // Where the loop's moves end: with an answer, whether that is the last key, how many keys were out, and how many moves were made. What it
 // goes on with is told apart from buffer and stack, which are lent: in one struct with them it would lie in memory, and not in registers
-// (docs/DECISIONS.md S14). `last` stands beside the answer, as where a key is out the walk may go on or not.
+// (docs/DECISIONS.md S14). `last` stands beside the answer: within it, it would make a second type of answers, out of which each step had to
+// make 01's, which has none.
 #[derive(Clone, Copy)]
 pub struct Ending {
     pub answer: Answer,
@@ -53,7 +58,7 @@ pub fn after_key(last: bool) -> WalkState
 }
 
 // A declined step: its decline, zero elsewhere, and the walk as it came.
-pub fn declined(decline: Decline, walk: &Walk) -> Stepped
+pub(crate) fn declined(decline: Decline, walk: &Walk) -> Stepped
     ensures { result ≡ declined_with decline walk.now }
 {
     Stepped {
@@ -114,6 +119,37 @@ fn ended(answer: Answer, ctx: ScanCtx, keys: usize, moves: usize) -> Ending
     }
 }
 
+// One move: in Up the layer above is taken back, or the walk ends; then a pass; then a layer that it found is entered, so that no push is
+// answered. What goes on comes by value, and is given back in the pass; of a declined move the contract says nothing of `held`. `tested` tells
+// that it has tested its leaf's version.
+fn make_move(
+    image: &[u8],
+    end: End,
+    held: &mut Held,
+    mut c: ScanCtx,
+    tested: bool,
+) -> Result<Pass, Decline>
+    requires between { Between c.state c }
+    requires known { tested ≡ true → (c.state ≡ FindNext) × (leaf_there image.now c.leaf ≡ true) }
+    ensures { MadeAs (move image.now end.entry.kind end.entry.key.now (record { ctx = c; buf = held.old.buf; stack = held.old.stack })) result held.new }
+{
+    if let ScanState::Up = c.state {
+        if c.depth == 0 {
+            let outcome = Outcome::Exhausted;
+            return Ok(Pass { outcome, ctx: c });
+        }
+        c = held.leave(c);
+    }
+    let p = moves::one_move(image, end, &mut held.buf, c, tested)?;
+    let Outcome::Push(root) = p.outcome else {
+        return Ok(p);
+    };
+    Ok(Pass {
+        outcome: Outcome::Continue,
+        ctx: held.enter(p.ctx, root),
+    })
+}
+
 // Moves until the next key is out, or where the whole walk is asked for past every key, to the end, 22 or 23. `whole` is a count in place of a
 // step: one loop for both (docs/DECISIONS.md, S14). Neither an enum nor two closures would be plainer: it is asked twice, for the moves along
 // a leaf and past a key, and a closure could not go on with the loop. `tested` tells that the first move has tested its leaf's version, as
@@ -142,31 +178,20 @@ fn make_moves(walk: &Walk, image: &[u8], whole: bool, mut tested: bool, held: &m
             tested = true;
         }
         moves += 1;
-        if let ScanState::Up = c.state {
-            if c.depth == 0 {
-                return ended(Ok(None), c, keys, moves);
-            }
-            c = held.leave(c);
-        }
-        let p = match moves::one_move(image, end, &mut held.buf, c, tested) {
+        let p = match make_move(image, end, held, c, tested) {
             Ok(p) => p,
             Err(decline) => return ended(Err(decline), c, keys, moves),
         };
         tested = false;
         c = p.ctx;
         match p.outcome {
-            Outcome::Continue => {}
-            Outcome::Push(root) => c = held.enter(c, root),
+            // A layer is entered within the move.
+            Outcome::Continue | Outcome::Push(_) => {}
             Outcome::Emit { value, last } => {
                 keys += 1;
                 if !whole {
-                    return Ending {
-                        answer: key_out(c, value),
-                        last,
-                        ctx: c,
-                        keys,
-                        moves,
-                    };
+                    let out = ended(key_out(c, value), c, keys, moves);
+                    return Ending { last, ..out };
                 }
                 if last {
                     return ended(Ok(None), c, keys, moves);

@@ -10,35 +10,29 @@ use crate::{forward_ctx, scan_ctx};
 use base::Decline;
 use moves::fast_path::HandedKey;
 use moves::{context, fast_path, stored_key};
-use node::leaf::{LeafReader, SlotReader};
 use search::traversal;
 use walk::scan_state::{KeyOut, Stepped, Walk, WalkState};
 use walk::walk_ok;
 
 // A step of a walk that has handed out a key. Most take the next slot's key, by the fast path; the loop makes every other, and its first
 // move does not test the leaf's version again.
-#[tactic(auto, using(crate::proofs::BeginLaws::raised))]
+#[tactic(auto, using(crate::proofs::BeginLaws::raised, crate::proofs::BeginLaws::bound_fits, crate::proofs::BeginLaws::in_range_lem), unfolding(crate::specs::Machine::scan_of))]
 fn step_next(walk: &Walk, image: &[u8]) -> Stepped
     requires image_value { walk_ok walk.now (length image.now) ≡ true }
     requires state_value { walk.now.state ≡ FindNext }
     ensures { result ≡ advance walk.now image.now }
 {
-    if !traversal::is_leaf_there(image, walk.leaf) {
+    let Some(leaf) = traversal::leaf_at(image, walk.leaf) else {
         return forward_ctx::declined(forward_ctx::no_leaf(image.len()), walk);
-    }
+    };
     let mut held = scan_ctx::scan_of(walk);
     let c = held.ctx;
-    let leaf = LeafReader {
-        image,
-        at: c.leaf as usize,
-    };
-    let Some(slot) = fast_path::fast_slot(leaf, c.position, c.cursor) else {
+    let Some(s) = fast_path::fast_slot(leaf, c.position, c.cursor) else {
         return forward_ctx::advance_no_alloc(walk, image, true);
     };
     // Read for the proof, which did not close without: of what is lent, a length is known once it is read.
     let _walk = *walk;
     let end = walk.bound.end();
-    let s = SlotReader { leaf, slot };
     let stored = stored_key::store_key(s, &mut held.buf, c.cursor);
     held.ctx = context::go_on(c, stored, stored.ikey);
     match fast_path::hand_out(s, end, &held.buf, stored) {

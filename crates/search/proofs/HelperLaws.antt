@@ -7,9 +7,9 @@ use Rattle.key.specs.Order.{order}
 use Rattle.node.specs.Layout.{ikey_at, keylenx_at}
 use Rattle.search.specs.Types.{Decline, Position, Slot, CursorPlace, KeyIndexedPosition, NotFound, Found}
 use Rattle.search.specs.Helper.{position, by_order, lower_from, stored_order, not_shorter, after_inline, not_below, after_suffix}
-use Rattle.search.proofs.LoopLaws.{Loop, Faults, Turns, Stops, faults, turns, stops}
+use Rattle.search.proofs.LoopLaws.{Loop, More, Ends, one_more, at_end}
 
--- What each says at a slot, by what the rest says; and that it is such a search.
+-- What each says at a slot, by what the rest says; that it is such a search; and a turn of it, and its end.
 module _ (image : List ℕ) (leaf : ℕ) where
   module _ (ikey : ℕ) where
     abbrev pub lower_turn : ℕ → Slot → Result KeyIndexedPosition Decline → Result KeyIndexedPosition Decline
@@ -20,14 +20,11 @@ module _ (image : List ℕ) (leaf : ℕ) where
     unfolding lower_from
     lower_loop = record { none = λ i. refl; more = λ i n. refl }
 
-    pub lower-fault : Faults image leaf (lower_from image leaf ikey)
-    lower-fault = faults lower_loop
+    pub lower_more : More image leaf lower_turn (lower_from image leaf ikey)
+    lower_more = one_more lower_loop
 
-    pub lower_turn_lem : Turns image leaf lower_turn (lower_from image leaf ikey)
-    lower_turn_lem = turns lower_loop
-
-    pub lower-stop : Stops (λ i. Ok (NotFound (position i))) (lower_from image leaf ikey)
-    lower-stop = stops lower_loop
+    pub lower_end : Ends (λ i. Ok (NotFound (position i))) (lower_from image leaf ikey)
+    lower_end = at_end lower_loop
 
   module _ (k : CursorPlace) where
     abbrev pub inline_turn : ℕ → Slot → Result Position Decline → Result Position Decline
@@ -39,14 +36,11 @@ module _ (image : List ℕ) (leaf : ℕ) where
     unfolding after_inline
     inline_loop = record { none = λ i. refl; more = λ i n. refl }
 
-    pub inline-fault : Faults image leaf (after_inline image leaf k)
-    inline-fault = faults inline_loop
+    pub inline_more : More image leaf inline_turn (after_inline image leaf k)
+    inline_more = one_more inline_loop
 
-    pub inline_turn_lem : Turns image leaf inline_turn (after_inline image leaf k)
-    inline_turn_lem = turns inline_loop
-
-    pub inline-stop : Stops (λ i. Ok (position i)) (after_inline image leaf k)
-    inline-stop = stops inline_loop
+    pub inline_end : Ends (λ i. Ok (position i)) (after_inline image leaf k)
+    inline_end = at_end inline_loop
 
     module _ (buf : List ℕ) where
       abbrev pub suffix_turn : ℕ → Slot → Result Position Decline → Result Position Decline
@@ -58,11 +52,8 @@ module _ (image : List ℕ) (leaf : ℕ) where
       unfolding after_suffix
       suffix_loop = record { none = λ i. refl; more = λ i n. refl }
 
-      pub suffix-fault : Faults image leaf (after_suffix image leaf k buf)
-      suffix-fault = faults suffix_loop
+      pub suffix_more : More image leaf suffix_turn (after_suffix image leaf k buf)
+      suffix_more = one_more suffix_loop
 
-      pub suffix_turn_lem : Turns image leaf suffix_turn (after_suffix image leaf k buf)
-      suffix_turn_lem = turns suffix_loop
-
-      pub suffix-stop : Stops (λ i. Ok (position i)) (after_suffix image leaf k buf)
-      suffix-stop = stops suffix_loop
+      pub suffix_end : Ends (λ i. Ok (position i)) (after_suffix image leaf k buf)
+      suffix_end = at_end suffix_loop

@@ -10,7 +10,7 @@ use Rattle.node.specs.Layout.{permutation_at}
 use Rattle.node.specs.Permuter.{size_of}
 use Rattle.search.specs.Traversal.{record_at, by_kind, found_leaf, leaf_there, child_for, reach_from, reach}
 use Rattle.search.specs.Helper.{slot_in, lower_with_position, stored_order, after_inline, not_below, after_suffix, behind, past_layer, past_inline, past_suffix, at_match, at_found, lower_with_suffix}
-use Rattle.search.proofs.TraversalLaws.{in_image, in-record, not_first, not_second, turn_at}
+use Rattle.search.proofs.TraversalLaws.{leaf_in, not_first, turn_at}
 use Rattle.search.proofs.LoopLaws.{all_turns, order_ind}
 use Rattle.search.proofs.HelperLaws.{lower_loop, inline_loop, suffix_loop}
 
@@ -22,15 +22,8 @@ is_leaf_lem (Err d) e = absurd (false≢true e)
 
 -- a leaf lies before the trailer, at a multiple of 8
 pub leaf_there_lem : (image : List ℕ) (at : ℕ) → leaf_there image at ≡ true → (8 ≤ at) × (at + 432 ≤ length image) × (at % 8 ≡ 0)
-unfolding leaf_there record_at
-leaf_there_lem image at e =
-    let unreadable : ◌≡◌ {A = Result RecordKind Decline} (Err Unreadable) (Ok Leaf) → ⊥ = λ u. cc in
-    let internode : ◌≡◌ {A = Result RecordKind Decline} (Ok Internode) (Ok Leaf) → ⊥ = λ u. cc in
-    let placed = not_first _ _ _ _ unreadable (is_leaf_lem (record_at image at) e) in
-    let rests = not_first _ _ _ _ unreadable placed.1 in
-    let marked = not_first _ _ _ _ internode rests.1 in
-    let whole = in_image image at 400 (not_second _ _ _ _ unreadable marked.1).0 in
-    (whole.0, omega arith, (in-record image at placed.0).0)
+unfolding leaf_there
+leaf_there_lem image at e = let found = leaf_in image at (is_leaf_lem (record_at image at) e) in (found.1, omega arith, found.0)
 
 -- a leaf that a descent comes to is one
 module _ (image : List ℕ) (ikey l : ℕ) where
@@ -69,7 +62,7 @@ module _ (image : List ℕ) (leaf : ℕ) where
   Finds (Ok (Found p s)) = (p.0 < size) × (s.0 < 15) × (s ≡ slot_in image leaf p.0)
   Finds (Err d) = Unit {0}
 
-  lower_finds : (ikey : ℕ) → Finds (lower_with_position image leaf ikey)
+  pub lower_finds : (ikey : ℕ) → Finds (lower_with_position image leaf ikey)
   unfolding lower_with_position
   lower_finds ikey =
       all_turns (lower_loop image leaf ikey) Finds size tt (λ i h. h)
@@ -128,8 +121,3 @@ module _ (image : List ℕ) (leaf : ℕ) where
 
       pub lower-within : (p : Position) → lower_with_suffix image leaf k buf ≡ Ok p → p.0 ≤ size
       lower-within p e = rw e at within_lem
-
-  -- the search by ikey
-  pub found_within : (ikey : ℕ) (p : Position) (s : Slot) → lower_with_position image leaf ikey ≡ Ok (Found p s)
-      → (p.0 < size) × (s.0 < 15) × (s ≡ slot_in image leaf p.0)
-  found_within ikey p s e = rw e at (lower_finds ikey)

@@ -33,9 +33,15 @@ module _ (image : List ℕ) (at : ℕ) where
       let in_image = in_image image at 256 both.1 in
       (eqb-true (at % 8) 0 both.0, in_image.0, in_image.1)
 
-  pub internode_in : record_at image at ≡ Ok Internode → (at % 8 ≡ 0) × (8 ≤ at) × (at + 256 + 32 ≤ length image)
+  pub leaf_in : record_at image at ≡ Ok Leaf → (at % 8 ≡ 0) × (8 ≤ at) × (at + 400 + 32 ≤ length image)
   unfolding record_at
-  internode_in e = in-record (not_first _ _ _ _ (λ n. cc) e).0
+  leaf_in e =
+      let unreadable : ◌≡◌ {A = Result RecordKind Decline} (Err Unreadable) (Ok Leaf) → ⊥ = λ u. cc in
+      let internode : ◌≡◌ {A = Result RecordKind Decline} (Ok Internode) (Ok Leaf) → ⊥ = λ u. cc in
+      let placed = not_first _ _ _ _ unreadable e in
+      let marked = not_first _ _ _ _ internode (not_first _ _ _ _ unreadable placed.1).1 in
+      let whole = in_image image at 400 (not_second _ _ _ _ unreadable marked.1).0 in
+      ((in-record placed.0).0, whole.0, whole.1)
 
 -- the second of a choice, where it is taken
 pick_second : {A : Type 0} (b : Bool) (x y z : A) → (b ≡ false → y ≡ z) → pick b x y ≡ pick b x z

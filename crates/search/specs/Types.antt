@@ -10,3 +10,5 @@ pub use Rattle.search.specs.declared.helper.KeyIndexedPosition.{KeyIndexedPositi
 pub use Rattle.search.specs.declared.helper.KeyIndexedPosition.TheVariants.{NotFound, Found}
 pub use Rattle.node.specs.declared.nodeversion.RecordKind.{RecordKind}
 pub use Rattle.node.specs.declared.nodeversion.RecordKind.TheVariants.{Leaf, Internode}
+pub use Rattle.search.specs.declared.traversal.Record.{Record}
+pub use Rattle.search.specs.declared.traversal.Record.TheVariants.{Leaf as LeafThere, Internode as InternodeThere}

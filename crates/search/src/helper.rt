@@ -1,5 +1,5 @@
 // Searches in a leaf (the Rust's helper.rs). Positions are counted: a leaf's order is one number, and no slice for an iterator.
-ghost use Rattle.std.specs.Prelude.{◌≡◌, ◌+◌, ◌≤◌, ◌<◌, IfOk};
+ghost use Rattle.std.specs.Prelude.{◌≡◌, ◌+◌, ◌<◌, Ok, IfOk};
 ghost use Rattle.base.specs.Kit.{true};
 ghost use Rattle.base.specs.Decline.{and_then};
 ghost use Rattle.key.specs.Order.{order};
@@ -17,7 +17,7 @@ use node::{leaf, permuter};
 use std::cmp::Ordering;
 
 // Where a search by ikey comes to (the Rust's KeyIndexedPosition): a position, with the slot there where its ikey is the
-// one searched for.
+// one searched for. (A slot, and no reader of it: the definition has the same values.)
 #[derive(Clone, Copy, Debug, PartialEq, Eq)]
 pub enum KeyIndexedPosition {
     NotFound(Position),
@@ -25,33 +25,38 @@ pub enum KeyIndexedPosition {
 }
 
 // The slot at a position, where it is one of the leaf's 15 places.
-#[tactic(auto, unfolding(crate::specs::CodeSlots::usable_slot, base::specs::Pick::pick), using(std::proofs::lemmas::Bool::Decides::nat_tests))]
-pub fn slot_at(permutation: u64, p: Position) -> Result<Slot, Decline>
+#[tactic(auto, unfolding(crate::specs::CodeSlots::usable_slot, base::specs::Decline::and_then, base::specs::Pick::pick), using(std::proofs::lemmas::Bool::Decides::nat_tests))]
+pub fn slot_at<'a>(
+    leaf: LeafReader<'a>,
+    permutation: u64,
+    p: Position,
+) -> Result<SlotReader<'a>, Decline>
     requires { p.0 < 15 }
-    ensures value { result ≡ usable_slot permutation p }
-    ensures in_leaf { IfOk result (λ slot. slot.0 < 15) }
+    ensures slot { and_then result (λ s. Ok s.slot) ≡ usable_slot permutation p }
+    ensures leaf { IfOk result (λ s. s.leaf ≡ leaf.entry) }
 {
     let slot = permuter::get(permutation, p);
     if 15 <= slot.0 {
         return Err(Decline::Unreadable);
     }
-    Ok(slot)
+    Ok(SlotReader { leaf, slot })
 }
 
 // The first position whose ikey is not below `ikey`.
+#[tactic(auto, unfolding(crate::specs::Helper::lower_with_position, base::specs::Decline::and_then, crate::specs::Helper::by_order, key::specs::Order::order, crate::specs::CodeSlots::usable_slot, base::specs::Pick::pick), using(crate::proofs::HelperLaws::lower_more, crate::proofs::HelperLaws::lower_end, std::proofs::lemmas::Bool::Decides::nat_tests))]
 fn lower_with_position(leaf: LeafReader, ikey: u64) -> Result<KeyIndexedPosition, Decline>
     ensures { result ≡ lower_with_position leaf.entry.image.now leaf.entry.at ikey }
 {
     let permutation = leaf.permutation();
     let size = permuter::size(permutation);
     for i in 0..size {
-        let slot = slot_at(permutation, Position(i))?;
-        let slot_ikey = SlotReader { leaf, slot }.ikey();
+        let s = slot_at(leaf, permutation, Position(i))?;
+        let slot_ikey = s.ikey();
         if ikey < slot_ikey {
             return Ok(KeyIndexedPosition::NotFound(Position(i)));
         }
         if ikey == slot_ikey {
-            return Ok(KeyIndexedPosition::Found(Position(i), slot));
+            return Ok(KeyIndexedPosition::Found(Position(i), s.slot));
         }
     }
     Ok(KeyIndexedPosition::NotFound(Position(size)))
@@ -108,6 +113,7 @@ struct FoundSlot<'a> {
 }
 
 // The first position behind a slot's whose slot has another ikey than the cursor, or a suffix, or a layer, or is not shorter.
+#[tactic(auto, unfolding(crate::specs::Helper::behind, base::specs::Decline::and_then, crate::specs::CodeSlots::usable_slot, base::specs::Pick::pick), using(crate::proofs::HelperLaws::inline_more, crate::proofs::HelperLaws::inline_end, std::proofs::lemmas::Bool::Decides::nat_tests))]
 fn find_position_after_inline(start: FoundSlot, k: CursorPlace) -> Result<Position, Decline>
     ensures { result ≡ after_inline start.entry.s.leaf.image.now start.entry.s.leaf.at k (start.entry.position.0 + 1) (behind start.entry.s.leaf.image.now start.entry.s.leaf.at start.entry.position.0) }
 {
@@ -115,8 +121,7 @@ fn find_position_after_inline(start: FoundSlot, k: CursorPlace) -> Result<Positi
     let permutation = leaf.permutation();
     let size = permuter::size(permutation);
     for i in start.position.0 + 1..size { // the match itself is shorter
-        let slot = slot_at(permutation, Position(i))?;
-        let s = SlotReader { leaf, slot };
+        let s = slot_at(leaf, permutation, Position(i))?;
         if s.ikey() != k.ikey || is_not_shorter(s.keylenx(), k.len) {
             return Ok(Position(i));
         }
@@ -125,8 +130,9 @@ fn find_position_after_inline(start: FoundSlot, k: CursorPlace) -> Result<Positi
 }
 
 // The first position behind a slot's whose slot has another ikey than the cursor, or a suffix not below the cursor's.
-// (Its loop and the one above ask different things of a slot, this one with a decline: one loop over a closure would want a contract for the
-// closure, and be no plainer.)
+// (Tried: one loop over a closure for this and the one above. The loop proves, by a clause over all that the closure may say; but each
+// closure then wants a clause and a definition of its own, and a law that joins the loop's definition to these two. That is sixty lines more.)
+#[tactic(auto, unfolding(crate::specs::Helper::behind, crate::specs::Helper::not_below, base::specs::Decline::and_then, crate::specs::CodeSlots::usable_slot, base::specs::Pick::pick), using(crate::proofs::HelperLaws::suffix_more, crate::proofs::HelperLaws::suffix_end, std::proofs::lemmas::Bool::Decides::nat_tests))]
 fn find_position_after_suffix(start: FoundSlot, c: CursorReader) -> Result<Position, Decline>
     ensures { result ≡ after_suffix start.entry.s.leaf.image.now start.entry.s.leaf.at c.entry.place c.entry.buf.now (start.entry.position.0 + 1) (behind start.entry.s.leaf.image.now start.entry.s.leaf.at start.entry.position.0) }
 {
@@ -134,12 +140,8 @@ fn find_position_after_suffix(start: FoundSlot, c: CursorReader) -> Result<Posit
     let permutation = leaf.permutation();
     let size = permuter::size(permutation);
     for i in start.position.0 + 1..size {
-        let slot = slot_at(permutation, Position(i))?;
-        let s = SlotReader { leaf, slot };
-        if s.ikey() != c.place.ikey {
-            return Ok(Position(i));
-        }
-        if compare_stored(s, c)?.is_some_and(Ordering::is_le) {
+        let s = slot_at(leaf, permutation, Position(i))?;
+        if s.ikey() != c.place.ikey || compare_stored(s, c)?.is_some_and(Ordering::is_le) {
             return Ok(Position(i));
         }
     }
@@ -188,7 +190,7 @@ fn at_match(found: FoundSlot, c: CursorReader) -> Result<Position, Decline>
 }
 
 // Where a walk that has come to the cursor goes on in a leaf.
-#[tactic(auto, unfolding(crate::specs::Helper::lower_with_suffix, crate::specs::Helper::at_found, base::specs::Decline::and_then))]
+#[tactic(auto, unfolding(crate::specs::Helper::lower_with_suffix, crate::specs::Helper::at_found, base::specs::Decline::and_then), using(crate::proofs::Laws::lower_finds))]
 pub fn lower_with_suffix(leaf: LeafReader, c: CursorReader) -> Result<Position, Decline>
     ensures { result ≡ lower_with_suffix leaf.entry.image.now leaf.entry.at c.entry.place c.entry.buf.now }
 {

@@ -1,14 +1,22 @@
 // From a layer's root to a leaf (the Rust's traversal.rs). The Rust follows pointers and waits for stable versions; here a
 // record is read at an offset of the lent image, and what cannot be read is declined.
-ghost use Rattle.std.specs.Prelude.{◌≡◌, ◌≤◌};
+ghost use Rattle.std.specs.Prelude.{◌≡◌, ◌≤◌, Ok, is_some, IfSome, IfOk};
+ghost use Rattle.base.specs.Decline.{and_then};
 ghost use Rattle.node.specs.Layout.{nkeys_at};
 ghost use Rattle.search.specs.Traversal.{readable, record_at, leaf_there, child_for, reach};
+ghost use Rattle.search.specs.CodeRecord.{kind_of, StandsAt};
 
 use base::Decline;
 use node::internode::{INTERNODE_SIZE, InternodeReader};
-use node::leaf::LEAF_SIZE;
-use node::nodeversion::RecordKind;
+use node::leaf::{LEAF_SIZE, LeafReader};
 use node::{ksearch, nodeversion};
+
+// A record that may be read, by the reader of its kind.
+#[derive(Clone, Copy)]
+enum Record<'a> {
+    Leaf(LeafReader<'a>),
+    Internode(InternodeReader<'a>),
+}
 
 // Whether n bytes at an offset lie between byte 8 and the trailer. This and the two below are functions of the image and an offset, and no
 // methods of a reader: the offset may be any number, and whether a reader of a record may stand there is what they find out.
@@ -21,36 +29,44 @@ pub fn is_readable(image: &[u8], at: u64, n: u64) -> bool
 }
 
 // What a move finds at an offset.
-#[tactic(auto, unfolding(crate::specs::Traversal::record_at, base::specs::Pick::pick), using(std::proofs::lemmas::Bool::Decides::nat_tests))]
-fn record_at(image: &[u8], at: u64) -> Result<RecordKind, Decline>
-    ensures { result ≡ record_at image.now at }
+#[tactic(auto, unfolding(crate::specs::Traversal::record_at, crate::specs::CodeRecord::kind_of, crate::specs::CodeRecord::StandsAt, base::specs::Decline::and_then, base::specs::Pick::pick), using(crate::proofs::TraversalLaws::in_image, std::proofs::lemmas::Bool::Decides::nat_tests))]
+fn record_at<'a>(image: &'a [u8], at: u64) -> Result<Record<'a>, Decline>
+    ensures kind { and_then result (λ r. Ok (kind_of r)) ≡ record_at image.now at }
+    ensures place { IfOk result (λ r. StandsAt r image.now at) }
 {
     if at % 8 != 0 || !is_readable(image, at, INTERNODE_SIZE as u64) {
         return Err(Decline::Unreadable);
     }
-    let version = InternodeReader {
+    let internode = InternodeReader {
         image,
         at: at as usize,
-    }
-    .version();
+    };
+    let version = internode.version();
     if !nodeversion::at_rest(version) {
         return Err(Decline::Unreadable);
     }
     if !nodeversion::is_leaf(version) {
-        return Ok(RecordKind::Internode);
+        return Ok(Record::Internode(internode));
     }
     if !is_readable(image, at, LEAF_SIZE as u64) {
         return Err(Decline::Unreadable);
     }
-    Ok(RecordKind::Leaf)
+    Ok(Record::Leaf(LeafReader {
+        image,
+        at: internode.at,
+    }))
 }
 
-// Whether a leaf stands at an offset.
-#[tactic(auto, unfolding(crate::specs::Traversal::leaf_there, crate::specs::Traversal::found_leaf, crate::specs::Traversal::by_kind))]
-pub fn is_leaf_there(image: &[u8], at: u64) -> bool
-    ensures { result ≡ leaf_there image.now at }
+// The leaf at an offset, where one stands there.
+#[tactic(auto, unfolding(crate::specs::Traversal::leaf_there, crate::specs::Traversal::found_leaf, crate::specs::Traversal::by_kind, crate::specs::CodeRecord::kind_of, crate::specs::CodeRecord::StandsAt, base::specs::Decline::and_then))]
+pub fn leaf_at<'a>(image: &'a [u8], at: u64) -> Option<LeafReader<'a>>
+    ensures there { is_some result ≡ leaf_there image.now at }
+    ensures leaf { IfSome result (λ leaf. (leaf.image.now ≡ image.now) × (leaf.at ≡ at)) }
 {
-    record_at(image, at) == Ok(RecordKind::Leaf)
+    match record_at(image, at) {
+        Ok(Record::Leaf(leaf)) => Some(leaf),
+        Ok(Record::Internode(_)) | Err(_) => None,
+    }
 }
 
 // The child of an internode that a search goes to.
@@ -63,21 +79,23 @@ fn child_for(node: InternodeReader, ikey: u64) -> u64
 }
 
 // The leaf that a search for `ikey` comes to from a layer's root.
-pub fn reach_leaf_for_scan(image: &[u8], root: u64, ikey: u64) -> Result<u64, Decline>
-    ensures { result ≡ reach image.now ikey root }
+#[tactic(auto, unfolding(crate::specs::CodeRecord::kind_of, crate::specs::CodeRecord::StandsAt, base::specs::Decline::and_then))]
+pub fn reach_leaf_for_scan<'a>(
+    image: &'a [u8],
+    root: u64,
+    ikey: u64,
+) -> Result<LeafReader<'a>, Decline>
+    ensures place { and_then result (λ leaf. Ok leaf.at) ≡ reach image.now ikey root }
+    ensures image { IfOk result (λ leaf. leaf.image.now ≡ image.now) }
 {
     let mut node = root;
     // No range: how many internodes lie above the leaf shows only on the way.
     loop {
         match record_at(image, node)? {
-            RecordKind::Leaf => {
-                return Ok(node);
+            Record::Leaf(leaf) => {
+                return Ok(leaf);
             }
-            RecordKind::Internode => {
-                let internode = InternodeReader {
-                    image,
-                    at: node as usize,
-                };
+            Record::Internode(internode) => {
                 if 15 < internode.nkeys() {
                     return Err(Decline::Unreadable);
                 }

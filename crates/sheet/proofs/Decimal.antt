@@ -1,17 +1,11 @@
 -- Decimals: their digits from the last to the first, how many there are, and what one store of a digit adds. The bound of
 -- twenty digits is enough for every number below 2^64, so that it drops out of the laws.
-use Rattle.std.specs.Prelude.{◌≡◌, ◌∷◌, ◌++◌, ◌+◌, ◌*◌, ◌/◌, ◌%◌, ◌^◌, ◌≤◌, ◌<◌}
-use Rattle.base.specs.Kit.{refl, sym, ap, ◌∙◌, ltb-true, add-one, paste-zero, pow-suc, one-le-pow, Bool, true, false, List, [], ℕ, zero, suc, arith, ltb, length, set, length-append, paste, lt-ltb, le-ltb}
+use Rattle.std.proofs.lemmas.Grind.{common_steps}
+use Rattle.std.specs.Prelude.{◌≡◌, ◌∷◌, ◌++◌, ◌+◌, ◌-◌, ◌*◌, ◌/◌, ◌%◌, ◌^◌, ◌≤◌, ◌<◌}
+use Rattle.base.specs.Kit.{refl, sym, subst, ltb-true, add-one, paste-zero, pow-suc, one-le-pow, Bool, true, false, List, [], ℕ, zero, suc, arith, ltb, length, set, length-append, paste, lt-ltb, le-ltb}
 use Rattle.base.specs.Pick.{pick}
 use Rattle.sheet.specs.Sheet.{decimal_in, decimal}
 use Rattle.sheet.proofs.Paste.{paste-last}
-
--- a bound that is enough may be one more
-enough : (n x : ℕ) → x < 10 ^ suc n → decimal_in (suc (suc n)) x ≡ decimal_in (suc n) x
-unfolding decimal_in pick
-enough zero x h = rw (lt-ltb x 10 (omega arith))
-enough (suc n) x h =
-    ap (λ (l : List ℕ). pick (ltb x 10) ((48 + x) ∷ []) (l ++ ((48 + x % 10) ∷ []))) (enough n (x / 10) (omega arith))
 
 -- a single digit
 pub decimal-one : (x : ℕ) → x < 10 → decimal x ≡ (48 + x) ∷ []
@@ -21,8 +15,7 @@ decimal-one x h = rw (lt-ltb x 10 h)
 -- more than one: the last is that of the remainder, and those before it are the quotient's
 pub decimal-more : (x : ℕ) → 10 ≤ x → x < 2 ^ 64 → decimal x ≡ decimal (x / 10) ++ ((48 + x % 10) ∷ [])
 unfolding decimal decimal_in pick
-decimal-more x h g =
-    rw (le-ltb x 10 h) (ap (λ (l : List ℕ). l ++ ((48 + x % 10) ∷ [])) (sym (enough 18 (x / 10) (omega arith))))
+decimal-more x h g = grind (arith, common_steps)
 
 pub decimal_one_length : (x : ℕ) → x < 10 → length (decimal x) ≡ 1
 decimal_one_length x h = rw (decimal-one x h)
@@ -78,21 +71,25 @@ lasts-are (suc n) x = go (ltb x 10) refl (decimal_in n (x / 10)) (lasts-are n (x
     go true e before h = let d : x % 10 ≡ x = omega (arith, ltb-true x 10 e) in rw d
     go false e before h = rw (length-append before ((48 + x % 10) ∷ []), add-one, h)
 
-pub lasts-all : (x : ℕ) → lasts (length (decimal x)) x ≡ decimal x
-unfolding decimal
-lasts-all x = lasts-are 20 x
+-- THE LOOP that stores them, from the highest place down: what it makes of the places from `at` to i is the last i - at digits. At its
+-- begin these are all; one turn stores the lowest; at its end none is left.
+module _ (at i : ℕ) (x : ℕ) where
+  pub lasts_all : i ≡ at + length (decimal x) → lasts (i - at) x ≡ decimal x
+  unfolding decimal
+  lasts_all h = let e : i - at ≡ length (decimal x) = omega arith in rw e (lasts-are 20 x)
 
--- one more of them is the lowest, stored behind the others
-module _ (out : List ℕ) (at m x : ℕ) {w : List ℕ} where
-  pub lasts-more : (j n k : ℕ) → j ≡ at + m → n ≡ m → k ≡ suc m → j < length out → paste out at (lasts k x) (length (lasts k x)) ≡ w
-      → paste (set out j (48 + x % 10)) at (lasts n (x / 10)) (length (lasts n (x / 10))) ≡ w
+  pub lasts_more : (out : List ℕ) → at < i → i ≤ length out
+      → paste (set out (i - 1) (48 + x % 10)) at (lasts (i - 1 - at) (x / 10)) (length (lasts (i - 1 - at) (x / 10)))
+      ≡ paste out at (lasts (i - at) x) (length (lasts (i - at) x))
   unfolding lasts
-  lasts-more j n k e f g h whole =
-      let l = lasts m (x / 10) in
-      let p : j ≡ at + length l = omega (arith, lasts-length m (x / 10)) in
-      rw (p, f) (paste-last out at l (48 + x % 10) (rw (← p) h)) ∙ (rw g at whole)
+  lasts_more out h g =
+      let l = lasts (i - 1 - at) (x / 10) in
+      let n : i - at ≡ suc (i - 1 - at) = omega arith in
+      let p : i - 1 ≡ at + length l = omega (arith, lasts-length (i - 1 - at) (x / 10)) in
+      rw n
+      (subst (λ (j : ℕ). paste (set out j (48 + x % 10)) at l (length l) ≡ paste out at (lasts (suc (i - 1 - at)) x) (length (lasts (suc (i - 1 - at)) x)))
+      (sym p) (paste-last out at l (48 + x % 10) (omega arith)))
 
--- none is left
-pub lasts-none : (out : List ℕ) (at n x : ℕ) {w : List ℕ} → n ≡ 0 → paste out at (lasts n x) (length (lasts n x)) ≡ w → out ≡ w
-unfolding lasts
-lasts-none out at n x e whole = paste-zero out at [] ∙ (rw e at whole)
+  pub lasts_none : (out : List ℕ) → i ≤ at → paste out at (lasts (i - at) x) (length (lasts (i - at) x)) ≡ out
+  unfolding lasts
+  lasts_none out h = let e : i - at ≡ 0 = omega arith in rw e (sym (paste-zero out at []))

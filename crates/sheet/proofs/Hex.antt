@@ -1,8 +1,8 @@
 -- Keys in hex: how many digits there are, and what one turn of the loop that writes them adds.
+use Rattle.std.proofs.lemmas.Grind.{common_steps}
 use Rattle.std.specs.Prelude.{◌≡◌, ◌∷◌, ◌+◌, ◌*◌, ◌/◌, ◌%◌, ◌≤◌, ◌<◌}
-use Rattle.base.specs.Kit.{refl, ◌∙◌, List, [], ℕ, suc, add-one, arith, length, get_or, drop, set, length-set, length-drop, drop_of_length-le, drop-cons, paste, paste-zero}
+use Rattle.base.specs.Kit.{refl, List, [], ℕ, arith, length, get_or, drop, set, drop_of_length-le, paste, paste-zero}
 use Rattle.sheet.specs.Sheet.{hex_digit, hex_bytes, hex_key}
-use Rattle.sheet.proofs.Paste.{paste-first}
 
 pub hex_bytes_length : (s : List ℕ) → length (hex_bytes s) ≡ 2 * length s
 unfolding hex_bytes
@@ -27,15 +27,7 @@ module _ (out key : List ℕ) (i : ℕ) where
       (2 * (i + 1)) (hex_bytes (drop (i + 1) key)) (length (hex_bytes (drop (i + 1) key)))
       ≡ paste out (2 * i) (hex_bytes (drop i key)) (length (hex_bytes (drop i key)))
   unfolding hex_bytes
-  hex_more h g =
-      let high = hex_digit (get_or key i 0 / 16) in
-      let low = hex_digit (get_or key i 0 % 16) in
-      let rest = hex_bytes (drop (suc i) key) in
-      let n : length rest + 2 * suc i ≡ 2 * length key = omega (arith, hex_bytes_length (drop (suc i) key), length-drop (suc i) key) in
-      let m : length (set out (2 * i) high) ≡ length out = length-set out (2 * i) high in
-      let e : 2 * (i + 1) ≡ 2 * i + 1 + 1 = omega arith in
-      rw (e, add-one i, drop-cons key i 0 h)
-      (paste-first (set out (2 * i) high) (2 * i + 1) low rest (omega arith) ∙ paste-first out (2 * i) high (low ∷ rest) (omega arith))
+  hex_more h g = grind (arith, common_steps)
 
   pub hex_none : length key ≤ i → out ≡ paste out (2 * i) (hex_bytes (drop i key)) (length (hex_bytes (drop i key)))
   unfolding hex_bytes

@@ -1,9 +1,7 @@
--- Pieces written into a buffer one after the other, each whole; and a line of two pieces.
+-- Pieces written into a buffer one after the other, each whole; and a line in pieces.
+use Rattle.std.proofs.lemmas.Grind.{common_steps}
 use Rattle.std.specs.Prelude.{◌≡◌, ◌∷◌, ◌++◌, ◌+◌, ◌≤◌, ◌<◌}
-use Rattle.base.specs.Kit.{refl, sym, ap, ◌∙◌, List, [], append_assoc, ℕ, suc, le_refl, add-one, arith, length, take, drop, set, length-append, append_snoc, take-length, take-set-le, drop_at, drop-drop, set_split, length-take-le, paste, take-paste, drop-paste, length-paste, le-leb, lt-leb}
-use Rattle.base.specs.Pick.{pick}
-use Rattle.sheet.specs.Sheet.{decimal}
-use Rattle.sheet.specs.Written.{written_len, written_out}
+use Rattle.base.specs.Kit.{sym, ap, ◌∙◌, List, [], append_assoc, ℕ, le_refl, add-one, arith, length, take, drop, set, length-append, append_snoc, take-length, drop-drop, set_split, paste, take-paste, drop-paste, length-paste}
 
 -- a store is a piece of one
 pub paste_one : (d : List ℕ) (at v : ℕ) → at < length d → set d at v ≡ paste d at (v ∷ []) 1
@@ -29,49 +27,22 @@ module _ (d : List ℕ) (at : ℕ) where
       let l : length (paste d at a (length a)) ≡ length d = length-paste d at a (length a) (omega arith) (le_refl (length a)) in
       paste_one (paste d at a (length a)) n v (omega arith) ∙ paste-append a (v ∷ []) n e (omega arith)
 
-  -- one more in front of a piece, stored before it
-  pub paste-first : (v : ℕ) (s : List ℕ) → at + length (v ∷ s) ≤ length d
-      → paste (set d at v) (at + 1) s (length s) ≡ paste d at (v ∷ s) (length (v ∷ s))
-  paste-first v s h = rw (paste_one d at v (omega arith)) (paste-append (v ∷ []) s (at + 1) refl (omega arith))
-
   -- one more behind a piece, stored before it
   pub paste-last : (l : List ℕ) (v : ℕ) → at + length l < length d
       → paste (set d (at + length l) v) at l (length l) ≡ paste d at (l ++ (v ∷ [])) (length (l ++ (v ∷ [])))
-  paste-last l v h =
-      let k = at + length l in
-      let e = ap (drop k) (set_split d k v h) ∙ drop_at (take k d) (v ∷ drop (suc k) d) k (length-take-le k d (omega arith)) in
-      let f : at + length (l ++ (v ∷ [])) ≡ suc k = omega (arith, length-append l (v ∷ [])) in
-      rw (take-set-le at d k v (omega arith), e, f, take-length l, take-length (l ++ (v ∷ [])), ← append_assoc (take at d) l (v ∷ []), append_snoc)
+  paste-last l v h = grind (arith, common_steps)
 
--- A LINE is its head, a decimal and a newline: too long for the buffer, or written in two pieces, the head and the rest.
--- a head that is a piece and one byte more
-pub one-behind : (out s d : List ℕ) (n v : ℕ) → n ≡ length s → n < length out → d ≡ paste out 0 s (length s)
-    → set d n v ≡ paste out 0 (s ++ (v ∷ [])) (length (s ++ (v ∷ [])))
-one-behind out s d n v e h g = rw g (paste_snoc out 0 s v n (omega arith) h)
+-- two pieces with one byte between, which is stored
+pub paste_between : (d a b : List ℕ) (v n m : ℕ) → n ≡ length a → m ≡ n + 1 → m + length b ≤ length d
+    → paste (set (paste d 0 a (length a)) n v) m b (length b) ≡ paste d 0 (a ++ (v ∷ []) ++ b) (length (a ++ (v ∷ []) ++ b))
+paste_between d a b v n m e f h =
+    let l : length (a ++ (v ∷ [])) ≡ length a + 1 = omega (arith, length-append a (v ∷ [])) in
+    rw (paste_snoc d 0 a v n (omega arith) (omega arith)) (paste-append d 0 (a ++ (v ∷ [])) b m (omega arith) h)
 
--- the line
-abbrev pub line : List ℕ → ℕ → List ℕ
-line head x = head ++ decimal x ++ (10 ∷ [])
+-- two pieces at the front
+pub paste_two : (d a b : List ℕ) (n : ℕ) → n ≡ length a → n + length b ≤ length d
+    → paste (paste d 0 a (length a)) n b (length b) ≡ paste d 0 (a ++ b) (length (a ++ b))
+paste_two d a b n e h = paste-append d 0 a b n (omega arith) h
 
-module _ (out head : List ℕ) (x : ℕ) where
-  line-length : length (line head x) ≡ length head + length (decimal x) + 1
-  line-length = omega (arith, length-append (head ++ decimal x) (10 ∷ []), length-append head (decimal x))
-
-  pub too_long : length out < length head + length (decimal x) + 1
-      → (0 ≡ written_len (line head x) out) × (out ≡ written_out (line head x) out)
-  unfolding written_len written_out pick
-  too_long h =
-      let e = lt-leb (length (line head x)) (length out) (omega (arith, line-length)) in
-      (rw e, rw e)
-
-  pub in_two : (n : ℕ) (to : List ℕ) → length head + length (decimal x) + 1 ≤ length out → n ≡ length head + length (decimal x) + 1
-      → to ≡ paste (paste out 0 head (length head)) (length head) (decimal x ++ (10 ∷ [])) (length (decimal x ++ (10 ∷ [])))
-      → (n ≡ written_len (line head x) out) × (to ≡ written_out (line head x) out)
-  unfolding written_len written_out pick
-  in_two n to h f g =
-      let e = le-leb (length (line head x)) (length out) (omega (arith, line-length)) in
-      let place : length head ≡ 0 + length head = omega arith in
-      let fits : length head + length (decimal x ++ (10 ∷ [])) ≤ length out = omega (arith, length-append (decimal x) (10 ∷ [])) in (
-        rw (e, line-length) f,
-        rw (e, append_assoc head (decimal x) (10 ∷ [])) (g ∙ paste-append out 0 head (decimal x ++ (10 ∷ [])) (length head) place fits),
-      )
+-- how joined pieces group, and how long they are
+pub ruleset joined = (append_assoc, length-append)

@@ -24,7 +24,7 @@ pub fn first_line(out: &mut [u8], count: u64) -> usize
 }
 
 // The line of one key and its value. The first test keeps the sum in the second from wrapping.
-#[tactic(auto, using(crate::proofs::Decimal::decimal_length))]
+#[tactic(auto, using(std::proofs::lemmas::Bool::Decides::nat_tests, crate::proofs::Decimal::decimal_length, crate::proofs::Paste::paste_between, crate::proofs::Paste::joined), unfolding(crate::specs::Sheet::pair_line, crate::specs::Written::written_len, crate::specs::Written::written_out, base::specs::Pick::pick))]
 pub fn pair_line(out: &mut [u8], key: &[u8], value: u64) -> usize
     ensures { (result ≡ written_len (pair_line (record { key = key.entry.now; value = value })) out.old)
         × (out.new ≡ written_out (pair_line (record { key = key.entry.now; value = value })) out.old) }
@@ -55,7 +55,7 @@ pub fn refused_line(out: &mut [u8], number: u64) -> usize
 }
 
 // A line of constant text and a number.
-#[tactic(auto, using(crate::proofs::Decimal::decimal_length))]
+#[tactic(auto, using(std::proofs::lemmas::Bool::Decides::nat_tests, crate::proofs::Decimal::decimal_length, crate::proofs::Paste::paste_two, crate::proofs::Paste::joined), unfolding(crate::specs::Written::written_len, crate::specs::Written::written_out, base::specs::Pick::pick))]
 fn word_line(out: &mut [u8], word: &[u8], x: u64) -> usize
     ensures { (result ≡ written_len (word.now ++ decimal x ++ (10 ∷ [])) out.old)
         × (out.new ≡ written_out (word.now ++ decimal x ++ (10 ∷ [])) out.old) }
@@ -93,6 +93,7 @@ fn decimal_len(x: u64) -> usize
 
 // The decimal of x into out, from `at` on, its last digit first; the place after it.
 // (By index: over the reversed iter_mut of the part the proof did not close.)
+#[tactic(auto, using(crate::proofs::Decimal::lasts_all, crate::proofs::Decimal::lasts_more, crate::proofs::Decimal::lasts_none))]
 fn put_decimal(out: &mut [u8], at: usize, x: u64) -> usize
     requires { at + length (decimal x) ≤ length out.old }
     ensures { (result ≡ at + length (decimal x))
@@ -129,6 +130,8 @@ fn put_hex_key(out: &mut [u8], key: &[u8])
 }
 
 // Two hex digits for each byte of a key, at the front of out.
+// (By index. Tried: over `chunks_exact_mut`, zipped with the key; nothing is known of what was written behind such a loop, and the proof did
+// not close.)
 #[tactic(auto, using(crate::proofs::Hex::hex_more, crate::proofs::Hex::hex_none))]
 fn put_hex(out: &mut [u8], key: &[u8])
     requires { 2 * length key.now ≤ length out.old }

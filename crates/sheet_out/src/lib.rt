@@ -14,7 +14,8 @@ use std::io::Read;
 /// The longest image that is listed.
 const LONGEST: usize = 65536;
 
-// The sheet's lines, to the last. There are no more than the image has bytes, and two.
+// The sheet's lines, to the last. There are no more than the image has bytes, and two. (By hand, and no iterator: that
+// would be a struct and an impl for this loop alone, which keeps its bound, and its end where a write fails.)
 fn write_sheet(rt: &impl Print, image: &[u8]) -> io::Result<()> {
     let mut listing = listed::open(image);
     for _ in 0..image.len() + 2 {

@@ -13,12 +13,12 @@ fn answer(rt: &impl Print, request: &Request<u8>) {
 }
 
 fn main(rt: HostRuntime) {
-    let mut input = rt.reader();
-    let mut space = [0u8; requests::SPACE];
-    for _ in 0..MOST {
-        let Some(request) = requests::read(&mut input, &mut space) else {
-            return;
-        };
-        answer(&rt, &request);
-    }
+    requests::each(
+        &mut rt.reader(),
+        MOST,
+        &mut |request, _| {
+            answer(&rt, request);
+            Some(())
+        },
+    );
 }

@@ -92,3 +92,6 @@ module _ (s : List ℕ) (d line n : ℕ) (first : LeafSlots) (place : ℕ) (slot
                   short = (subst (All (λ (x : Pair). length x.key ≤ 8)) lines_split I.left.short).1;
                 };
           }
+
+-- what `add_shorts` rests on
+pub ruleset short_rules = (shorts-none, shorts-room, shorts_turn)

@@ -14,11 +14,10 @@ ghost use Rattle.groups.specs.CodeGroups.{lines_at};
 ghost use Rattle.image_out.specs.CodeRows.{slots_of, HoldsSlots};
 ghost use Rattle.slots_out.specs.CodeSlots.{ShortLines, LongLine, GroupLaid};
 
-use groups::lowered_at;
-use image_out::{LeafSlots, add_slot, put_padded};
-use key::{ikey_of, part_of};
+use groups::{lowered_at, lowered_key};
+use image_out::{LeafSlots, SlotFields, add_slot, put_padded};
+use key::ikey_of;
 use node::leaf::KSUF_KEYLENX;
-use reading::station_at;
 
 // The place behind a part of a leaf, and the slots with its own.
 #[derive(Clone, Copy)]
@@ -27,8 +26,10 @@ pub struct Slotted {
     pub slots: LeafSlots,
 }
 
-// The slots with those of n station lines whose keys end in the layer. (Sheet, line and depth go one by one: the lines are any short ones, and
-// a `FirstGroup` would ask more.)
+// The slots with those of n station lines whose keys end in the layer. (Sheet, line and depth go one by one, here and where a line is read: a
+// `FirstGroup` would ask more of the lines, and a plain struct of the three would be made anew for each line, since no caller has one and from
+// one line to the next the line alone changes.)
+#[tactic(auto, using(crate::proofs::Shorts::short_rules))]
 pub fn add_shorts(sheet: &[u8], line: usize, n: usize, depth: usize, slots: LeafSlots) -> LeafSlots
     requires short_lines { ShortLines sheet.now depth line n }
     requires n_bound { n ≤ 15 }
@@ -39,13 +40,21 @@ pub fn add_shorts(sheet: &[u8], line: usize, n: usize, depth: usize, slots: Leaf
     let mut s = slots;
     for _ in 0..n {
         let r = lowered_at(sheet, place, depth);
-        s = add_slot(s, r.ikey, r.len as u8, r.value, 0, true);
+        let slot = SlotFields {
+            ikey: r.ikey,
+            keylenx: r.len as u8,
+            value: r.value,
+            suffix: 0,
+            live: true,
+        };
+        s = add_slot(s, slot);
         place = r.next;
     }
     s
 }
 
 // The suffix of a station line whose key goes on below the layer, behind the parts of a leaf so far, and the slots with its own.
+#[tactic(auto, using(crate::proofs::Suffix::long_one, crate::proofs::Suffix::key_sizes))]
 pub fn add_suffix(
     out: &mut [u8],
     before: Slotted,
@@ -61,20 +70,18 @@ pub fn add_suffix(
         → GroupLaid out.new result (laid (record { out = out.old; at = before.at; fields = fs }) (long_slots sub (lines_at sheet.now depth line 1))) }
 {
     let mut buf = [0u8; 256];
-    let read = station_at(sheet, line, &mut buf).unwrap();
-    let key = part_of(&buf, 8 * depth, read.key_len - 8 * depth);
-    let suffix = &key[8..];
+    let read = lowered_key(sheet, line, depth, &mut buf);
+    let suffix = &read.key[8..];
     let behind = put_padded(out, before.at, suffix);
-    let word = before.at as u64 + suffix.len() as u64 * 4294967296;
+    let slot = SlotFields {
+        ikey: ikey_of(read.key),
+        keylenx: KSUF_KEYLENX,
+        value: read.value,
+        suffix: before.at as u64 + suffix.len() as u64 * (1 << 32),
+        live: true,
+    };
     Slotted {
         at: behind,
-        slots: add_slot(
-            before.slots,
-            ikey_of(key),
-            KSUF_KEYLENX,
-            read.value,
-            word,
-            true,
-        ),
+        slots: add_slot(before.slots, slot),
     }
 }

@@ -11,7 +11,7 @@ use Rattle.start.specs.Types.{Decline, Position, Slot, CursorPlace, StartMode, A
 use Rattle.cursor.specs.CursorKey.{has_suffix}
 use Rattle.search.specs.Helper.{position, slot_in}
 use Rattle.start.specs.Start.{at_equal, short_verdict, suffix_verdict, long_verdict, verdict, by_verdict, start_from, start_position}
-use Rattle.search.proofs.LoopLaws.{Loop, Faults, Turns, Stops, faults, turns, stops, all_turns, order_ind}
+use Rattle.search.proofs.LoopLaws.{Loop, More, Ends, one_more, at_end, all_turns, order_ind}
 
 module _ (mode : StartMode) (image : List ℕ) (leaf : ℕ) (k : CursorPlace) (buf : List ℕ) where
   abbrev pub start_turn : ℕ → Slot → Result Started Decline → Result Started Decline
@@ -21,14 +21,11 @@ module _ (mode : StartMode) (image : List ℕ) (leaf : ℕ) (k : CursorPlace) (b
   unfolding start_from
   start_loop = record { none = λ i. refl; more = λ i n. refl }
 
-  pub start-fault : Faults image leaf (start_from mode image leaf k buf)
-  start-fault = faults start_loop
+  pub start_more : More image leaf start_turn (start_from mode image leaf k buf)
+  start_more = one_more start_loop
 
-  pub start_turn_lem : Turns image leaf start_turn (start_from mode image leaf k buf)
-  start_turn_lem = turns start_loop
-
-  pub start-stop : Stops (λ i. Ok (At (position i))) (start_from mode image leaf k buf)
-  start-stop = stops start_loop
+  pub start_end : Ends (λ i. Ok (At (position i))) (start_from mode image leaf k buf)
+  start_end = at_end start_loop
 
   -- a layer is entered only where more than eight bytes are left
   abbrev Enters : Verdict → Type 0

@@ -1,7 +1,7 @@
 -- What the inner answers tell, and that the check's numbers stay small: a subtree keeps `Bounded` for every number of slots
 -- ahead, a slot adds one to it, and the end of a leaf takes all its slots back. By recursion as the check's own.
-use Rattle.std.specs.Prelude.{◌≡◌, ◌+◌, ◌*◌, ◌-◌, ◌<◌, ◌≤◌, Result, Ok, Err, IfOk}
-use Rattle.base.specs.Kit.{Bool, true, List, refl, ℕ, zero, suc, suc-mul, sub-one, arith, eqb, length, not-false, leb-true, eqb-true, eqb-false}
+use Rattle.std.specs.Prelude.{◌≡◌, ◌+◌, ◌*◌, ◌-◌, ◌≤◌, Result, Ok, Err, IfOk}
+use Rattle.base.specs.Kit.{Bool, true, List, refl, ℕ, zero, suc, suc-mul, sub-one, arith, eqb, length, not-false, eqb-true, eqb-false}
 use Rattle.base.specs.Decline.{and_then}
 use Rattle.base.proofs.Choice.{pick_ind, one_at_most}
 use Rattle.node.specs.Version.{at_rest}
@@ -11,8 +11,8 @@ use Rattle.node.proofs.PermuterLaws.{size_fits}
 use Rattle.verify.specs.Types.{Decline, RecordPlace, LeafChain, Suffix, Progress, RecordKind, Leaf, Internode, SlotCheck, Layer, Passed}
 use Rattle.verify.specs.Check.{Checked, each, demand, pass_leaf, pass_internode, enter_layer, leave_layer, separators_from, slot_c, node_c}
 use Rattle.verify.specs.CodeCases.{after_record, after_slot, sub_c, leaf_check, internode_check, record_check, LeafTold, suffix_check, kind_check, slot_check, record_end, leaf_end, leaf_parts, layer_end, Bounded, Sized}
-use Rattle.verify.proofs.Going.{says-leb, says-eqb, says-and, says_self}
-use Rattle.verify.proofs.Fields.{layer-kind}
+use Rattle.std.proofs.lemmas.Bool.Decides.{Decides-and, Decides-eqb}
+use Rattle.verify.proofs.Going.{says-leb, says_self}
 use Rattle.verify.proofs.Records.{says-reachable}
 use Rattle.verify.proofs.Steps.{child_c, inner_parts, node-is, slot_is, layer-is}
 
@@ -38,11 +38,11 @@ module _ (image : List ℕ) (path at lo hi : ℕ) (p : Progress) where
       pick_ind Told _ (λ t. tt) (λ near. pick_ind Told _
       (λ t. pick_ind Told _ (λ t. tt) (λ far. pick_ind Told _ (λ t. tt) (λ f. pick_ind Told _ (λ t. tt)
       (λ f. pick_ind Told _ (λ t. tt)
-      (λ g. record { before = omega (arith, ((says-reachable image 400 at p).holds (not-false _ far)).before); permuted = not-false _ g })))))
+      (λ g. record { before = omega (arith, ((says-reachable image 400 at p).0 (not-false _ far)).before); permuted = not-false _ g })))))
       (λ t. pick_ind Told _ (λ t. tt) (λ few. pick_ind Told _ (λ t. tt) (λ some. pick_ind Told _ (λ t. tt)
       (λ g. record {
-        before = omega (arith, ((says-reachable image 256 at p).holds (not-false _ near)).before);
-        few = ((says-and (says_self (at_rest (version_at image at))) (says-leb (nkeys_at image at) 15)).holds (not-false _ few)).1;
+        before = omega (arith, ((says-reachable image 256 at p).0 (not-false _ near)).before);
+        few = ((Decides-and _ _ (says_self (at_rest (version_at image at))) (says-leb (nkeys_at image at) 15)).0 (not-false _ few)).1;
         some = eqb-false path 0 some;
         separated = not-false _ g;
       })))))
@@ -79,18 +79,18 @@ each_adds k f h (suc n) i a p b =
     (λ q c. looser (a + k + n * k) _ _ (omega (arith, suc-mul n k)) (each_adds k f h n (i + 1) (a + k) q c))
 
 -- SLOTS
-unfoldable pub SlotTold : ℕ → ℕ → Result SlotCheck Decline → Type 0
-SlotTold depth a (Ok (Layer root)) = depth < 31
-SlotTold depth a (Ok (Passed q)) = Bounded (a + 1) q
-SlotTold depth a (Err d) = Unit {0}
+unfoldable SlotTold : ℕ → Result SlotCheck Decline → Type 0
+SlotTold a (Ok (Layer root)) = Unit {0}
+SlotTold a (Ok (Passed q)) = Bounded (a + 1) q
+SlotTold a (Err d) = Unit {0}
 
 module _ (image : List ℕ) (sized : Sized image) (depth at : ℕ) (inside : at + 432 ≤ length image) (lo hi : ℕ) where
-  suffix_told : (s : Suffix) (live : Bool) (a : ℕ) (p : Progress) → Bounded a p → SlotTold depth a (suffix_check at s live p)
+  suffix_told : (s : Suffix) (live : Bool) (a : ℕ) (p : Progress) → Bounded a p → SlotTold a (suffix_check at s live p)
   unfolding suffix_check SlotTold
   suffix_told s live a p b =
-      pick_ind (SlotTold depth a) _
+      pick_ind (SlotTold a) _
       (λ t.
-      let h = (says-and (says-eqb s.start p.place) (says-leb (s.start + s.len) at)).holds t in
+      let h = (Decides-and _ _ (Decides-eqb s.start p.place) (says-leb (s.start + s.len) at)).0 t in
       record {
         within = omega (arith, h, sized.short, b.within);
         counted = omega (arith, b.counted);
@@ -98,12 +98,12 @@ module _ (image : List ℕ) (sized : Sized image) (depth at : ℕ) (inside : at 
       })
       (λ f. tt)
 
-  pub slot_told : (i a : ℕ) (p : Progress) → Bounded a p → SlotTold depth a (slot_check image depth at lo hi i p)
+  slot_told : (i a : ℕ) (p : Progress) → Bounded a p → SlotTold a (slot_check image depth at lo hi i p)
   unfolding slot_check kind_check SlotTold
   slot_told i a p b =
-      let T = SlotTold depth a in
-      pick_ind T _ (λ t. tt) (λ f. pick_ind T _ (λ t. tt) (λ fitting. pick_ind T _ (λ t. tt)
-      (λ f. pick_ind T _ (λ big. layer-kind depth _ (leb-true 128 _ big) (not-false _ fitting))
+      let T = SlotTold a in
+      pick_ind T _ (λ t. tt) (λ f. pick_ind T _ (λ t. tt) (λ f. pick_ind T _ (λ t. tt)
+      (λ f. pick_ind T _ (λ t. tt)
       (λ f. pick_ind T _ (λ t. suffix_told _ _ a p b)
       (λ f.
       let live = live_at image at (slot_at (permutation_at image at) (record { 0 = i })) in
@@ -113,7 +113,7 @@ module _ (image : List ℕ) (sized : Sized image) (depth at : ℕ) (inside : at 
   unfolding after_slot SlotTold leave_layer
   slot_adds sub h i a p b = rw (slot_is sub image depth at lo hi i p) (go (slot_check image depth at lo hi i p) (slot_told i a p b))
     where
-      go : (r : Result SlotCheck Decline) → SlotTold depth a r → Kept (a + 1) (after_slot r sub p)
+      go : (r : Result SlotCheck Decline) → SlotTold a r → Kept (a + 1) (after_slot r sub p)
       go (Ok (Layer root)) t =
           then-kept (a + 1 + 0) (a + 1) _ _ (h root (a + 1) (enter_layer p) (record { within = b.within; counted = omega (arith, b.counted); lively = b.lively }))
           (λ q c. record { within = c.within; counted = omega (arith, c.counted); lively = c.lively })

@@ -10,7 +10,8 @@ use Rattle.layering.specs.Accepted.{end_n, end_s, InPostOrderN, ShortPathsN, Asc
 use Rattle.layering.proofs.Size.{leaves_fit_s}
 use Rattle.verify.specs.Types.{RecordPlace, RecordVersion, LeafPermutation, LeafChain, Progress}
 use Rattle.verify.specs.Check.{Checked, demand, reachable, in_order, pass_leaf, leaf_c}
-use Rattle.verify.proofs.Going.{says-eqb, says_self, runs_as, runs_to, runs_test, runs-demand, runs_then}
+use Rattle.std.proofs.lemmas.Bool.Decides.{Decides-eqb}
+use Rattle.verify.proofs.Going.{says_self, runs_as, runs_to, runs_test, runs-demand, runs_then}
 use Rattle.verify.proofs.Records.{Reachable, says-reachable, says-expected, says-permutes}
 use Rattle.verify.proofs.Places.{last_n, within, aligned_s}
 use Rattle.verify.proofs.Sound.{after_s, after-leaf, Underway, SoundN, SoundS, Checks}
@@ -55,7 +56,7 @@ module _ (image : List ℕ) (sub : ℕ → Progress → Checked) (tree : ℕ →
       runs_test LeafPermutation (says-permutes (permutation_at image at)) (λ d.
       runs_then (λ q. demand RecordPlace (eqb at q.place) (pass_leaf (next_at image at) q))
       (slots-run image sub tree depth at lo hi layers (omega (arith, a.before)) size 0 p r) (λ e.
-      runs-demand RecordPlace (pass_leaf (next_at image at) (after_s p slots)) (says-eqb at (end_s p.place slots)))))))))
+      runs-demand RecordPlace (pass_leaf (next_at image at) (after_s p slots)) (Decides-eqb at (end_s p.place slots)))))))))
     where
       to : Parts p → SoundN image depth lo hi p (leaf_at tree image at)
       to (reach, (rest, (first, (permutes, (s, e))))) =

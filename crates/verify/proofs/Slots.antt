@@ -9,7 +9,8 @@ use Rattle.layering.specs.Accepted.{room, end_n, end_s, InPostOrderS, ShortPaths
 use Rattle.layering.proofs.Size.{leaves_fit_s}
 use Rattle.verify.specs.Types.{RecordPlace, SlotLength, SlotKey, SlotOrder, Progress}
 use Rattle.verify.specs.Check.{Checked, each, pass_value, enter_layer, leave_layer, listed, fits, in_order, in_range, suffix_c, layer_slot_c, slot_c}
-use Rattle.verify.proofs.Going.{says-leb, says-eqb, says-and, says_self, Runs, runs_as, runs_to, runs_here, runs_test, runs-demand, runs_then}
+use Rattle.std.proofs.lemmas.Bool.Decides.{Decides-and, Decides-eqb}
+use Rattle.verify.proofs.Going.{says-leb, says_self, Runs, runs_as, runs_to, runs_here, runs_test, runs-demand, runs_then}
 use Rattle.verify.proofs.Fields.{value-kind, kind-value, layer-kind, kind-layer, says-before, says_range}
 use Rattle.verify.proofs.Places.{last_n, linked-last_n, Within, room_aligned, aligned_n}
 use Rattle.verify.proofs.Sound.{after_n, after_s, behind, after_none, after-value, after-layer, Underway, SoundN, SoundS}
@@ -46,7 +47,7 @@ suffix_runs at s p = go (eqb s.keylenx 64) refl
     go : (b : Bool) → eqb s.keylenx 64 ≡ b → Runs (pick b (suffix_c at s p) (Ok (pass_value 0 s.live p))) (Suffixed at s p) (passed s p)
     go true e =
         runs_as (λ h q. h) (λ h. h (eqb-true _ _ e))
-        (runs-demand RecordPlace (passed s p) (says-and (says-eqb s.start p.place) (says-leb (s.start + s.len) at)))
+        (runs-demand RecordPlace (passed s p) (Decides-and _ _ (Decides-eqb s.start p.place) (says-leb (s.start + s.len) at)))
     go false e = rw e (runs_as (λ h q. absurd (eqb-false _ _ e q)) (λ h. tt) (runs_here (pass_value 0 s.live p)))
 
 -- the place behind it is before the trailer, as its leaf is
@@ -77,7 +78,7 @@ module _ (image : List ℕ) (sub : ℕ → Progress → Checked) (tree : ℕ →
       → Runs (pick (not (listed depth (slot i))) (Err SlotLength) (pick (not (fits depth (slot i))) (Err SlotKey)
       (pick (not (in_order image at i && in_range lo hi (slot i))) (Err SlotOrder) x))) (Tested i S) q
   tested i r =
-      let ordered = runs_test SlotOrder (says-and (says_self (in_order image at i)) (says_range lo hi (slot i))) (λ h. r) in
+      let ordered = runs_test SlotOrder (Decides-and _ _ (says_self (in_order image at i)) (says_range lo hi (slot i))) (λ h. r) in
       let fitting = runs_test SlotKey (says_self (fits depth (slot i))) (λ h. ordered) in
       runs_as (λ h. search) (λ h. search)
       (runs_test SlotLength (says_self (listed depth (slot i))) (λ h. fitting))
@@ -102,12 +103,12 @@ module _ (image : List ℕ) (sub : ℕ → Progress → Checked) (tree : ℕ →
   next-order i (suc n) h = pick_ind (BeforeFirst (slot i)) (leb 128 (slot (i + 1)).keylenx) (λ e. follows) (λ e. follows)
     where
       follows : Before (slot i) (slot (i + 1))
-      follows = rw add-one ((says-before (slot i) (slot (suc i))).holds (rw add-one at (h (omega arith))))
+      follows = rw add-one ((says-before (slot i) (slot (suc i))).0 (rw add-one at (h (omega arith))))
 
   order-next : (i n : ℕ) → BeforeFirst (slot i) (slots_from tree image at (i + 1) n) → 0 < n → in_order image at (i + 1) ≡ true
   unfolding BeforeFirst slots_from in_order
   order-next i zero b h = absurd (omega arith)
-  order-next i (suc n) b h = rw add-one ((says-before (slot i) (slot (suc i))).passes (rw add-one at (follows b)))
+  order-next i (suc n) b h = rw add-one ((says-before (slot i) (slot (suc i))).1 (rw add-one at (follows b)))
     where
       follows : BeforeFirst (slot i) (slots_from tree image at (i + 1) (suc n)) → Before (slot i) (slot (i + 1))
       follows =

@@ -1,11 +1,10 @@
 -- The check, said by what its inner functions answer: a subtree by its record, a slot by its kind, a layer by its subtree;
 -- and a loop over parts, one turn at a time.
-use Rattle.std.specs.Prelude.{◌≡◌, ◌&&◌, ◌+◌, ◌-◌, ◌^◌, ◌<◌, ◌≤◌, Result, Ok, Err}
+use Rattle.std.specs.Prelude.{◌≡◌, ◌&&◌, ◌+◌, ◌-◌, ◌^◌, ◌<◌, Result, Ok, Err}
 use Rattle.base.specs.Kit.{refl, true, false, List, ℕ, zero, suc, sub-one, arith, leb, eqb, ne_eqb}
 use Rattle.base.specs.Decline.{and_then}
 use Rattle.base.specs.Pick.{pick}
 use Rattle.base.proofs.Choice.{pick-map, pick_inner}
-use Rattle.base.proofs.Count.{left-more}
 use Rattle.node.specs.Layout.{nkeys_at, child_at}
 use Rattle.layering.specs.Tree.{fields_at}
 use Rattle.layering.specs.Accepted.{room}
@@ -13,20 +12,15 @@ use Rattle.verify.specs.Check.{Checked, each, demand, pass_value, pass_internode
 use Rattle.verify.specs.CodeCases.{after_record, after_slot, sub_c, leaf_check, internode_check, record_check, suffix_check, kind_check, slot_check, record_end, leaf_end, leaf_parts, layer_end}
 use Rattle.verify.specs.Types.{Decline, RecordPlace, RecordKind, SlotCheck, Progress}
 
--- LOOPS. What is left from i on comes to w, as the whole does.
-module _ (f : ℕ → Progress → Checked) (n i : ℕ) (p : Progress) (w : Checked) (same : each f i (n - i) p ≡ w) where
-  pub each_none : n ≤ i → Ok p ≡ w
-  unfolding each
-  each_none h = let e : n - i ≡ 0 = omega arith in rw e at same
+-- LOOPS, one turn at a time
+pub each_none : (f : ℕ → Progress → Checked) (i n : ℕ) (p : Progress) → n ≡ 0 → each f i n p ≡ Ok p
+unfolding each
+each_none f i n p e = rw e
 
-  module _ (h : i < n) where
-    pub each_on : (r : Progress) → Ok r ≡ f i p → each f (i + 1) (n - (i + 1)) r ≡ w
-    unfolding each and_then
-    each_on r e = rw (left-more n i h, ← e) at same
-
-    pub each-stop : (d : Decline) → Err d ≡ f i p → Err d ≡ w
-    unfolding each and_then
-    each-stop d e = rw (left-more n i h, ← e) at same
+pub each_next : (f : ℕ → Progress → Checked) (i n : ℕ) (p : Progress) → 0 < n → each f i n p ≡ and_then (f i p) (each f (i + 1) (n - 1))
+unfolding each
+each_next f i zero p h = absurd (omega arith)
+each_next f i (suc n) p h = rw sub-one
 
 pick_true : {A : Type 0} (x y : A) → pick true x y ≡ x
 unfolding pick

@@ -12,7 +12,8 @@ use Rattle.layering.specs.Accepted.{end_n, end_k, InPostOrderN, InPostOrderK, Sh
 use Rattle.layering.proofs.Size.{leaves_fit_k}
 use Rattle.verify.specs.Types.{RecordPlace, RecordVersion, SlotKey, SlotOrder, LeafChain, Progress}
 use Rattle.verify.specs.Check.{Checked, each, demand, is_next, pass_internode, low_end, high_end, internode_c, reachable, leaf_c, record_c, node_c, layer_with, layer_c}
-use Rattle.verify.proofs.Going.{says-leb, says-eqb, says-and, says_self, Runs, runs_as, runs_to, runs_here, runs_test, runs-demand, runs_then, runs_never}
+use Rattle.std.proofs.lemmas.Bool.Decides.{Decides-and, Decides-eqb}
+use Rattle.verify.proofs.Going.{says-leb, says_self, Runs, runs_as, runs_to, runs_here, runs_test, runs-demand, runs_then, runs_never}
 use Rattle.verify.proofs.Records.{Reachable, Separators, says-separators, says-reachable}
 use Rattle.verify.proofs.Places.{last_n, last_k, linked-last_n, aligned_k}
 use Rattle.verify.proofs.Sound.{after_n, after_k, after_more, Underway, ready_after_n, SoundN, SoundK, Checks}
@@ -109,11 +110,11 @@ module _ (image : List ℕ) (depth : ℕ) (kid : ℕ → ℕ → ℕ → Progres
   unfolding internode_head internode_c pass_internode low_end after_n after_k InPostOrderN end_n last_n first_n ShortPathsN AscendN InRangeN LinkedN FieldsN leaves_n values_n layers_n lives_n SoundN SoundK
   internode-run p r reach =
       runs_as to from
-      (runs_test RecordVersion (says-and (says_self (at_rest (version_at image at))) (says-leb (nkeys_at image at) 15)) (λ a.
+      (runs_test RecordVersion (Decides-and _ _ (says_self (at_rest (version_at image at))) (says-leb (nkeys_at image at) 15)) (λ a.
       runs_test SlotOrder (says-separators image at lo hi 0 (nkeys_at image at)) (λ b.
       runs_then (λ q. demand RecordPlace (eqb at q.place) (pass_internode q))
       (rw add-one (kids-run (nkeys_at image at) 0 p (omega arith) r b)) (λ c.
-      runs-demand RecordPlace (pass_internode (after_k p kids_here)) (says-eqb at (end_k p.place kids_here))))))
+      runs-demand RecordPlace (pass_internode (after_k p kids_here)) (Decides-eqb at (end_k p.place kids_here))))))
     where
       to : Parts p → SoundN image depth lo hi p here
       to ((rest, few), (separators, (k, e))) =
@@ -178,7 +179,7 @@ module _ (image : List ℕ) (sub : ℕ → Progress → Checked) (tree : ℕ →
   layer_with-run root p r fresh =
       runs_as (λ h. record { sound = h.0; ends = h.1 }) (λ h. (h.sound, h.ends))
       (runs_then (λ q. demand LeafChain (is_next 0 q.next) q) (node-run 12 root 0 (2 ^ 64) p r)
-      (λ h. runs-demand LeafChain (after_n p (node_at tree image 12 root)) (says-eqb (last_n (node_at tree image 12 root)) 0)))
+      (λ h. runs-demand LeafChain (after_n p (node_at tree image 12 root)) (Decides-eqb (last_n (node_at tree image 12 root)) 0)))
 
 -- LAYERS with at most `below` more below them.
 pub layers-run : (image : List ℕ) (below : ℕ) → below ≤ 31 → Layers image (31 - below) (layer_c image below) (layer_at image (suc below))

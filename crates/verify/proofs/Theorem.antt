@@ -5,7 +5,7 @@ use Rattle.base.specs.Kit.{Bool, true, false, not, List, refl, ap, sym, ◌∙�
 use Rattle.base.specs.Decline.{and_then}
 use Rattle.base.specs.Pick.{pick}
 use Rattle.base.proofs.Choice.{pick_ind}
-use Rattle.base.proofs.Declines.{never-zero}
+use Rattle.base.proofs.Declines.{never-zero, both_ok}
 use Rattle.node.specs.Layout.{root_offset, key_count, stated_length, edition}
 use Rattle.node.specs.Heading.{length_ok, heading}
 use Rattle.layering.specs.Tree.{tree_of}
@@ -14,7 +14,9 @@ use Rattle.layering.specs.Accepted.{end_n, LinkedN, Obeys}
 use Rattle.verify.specs.Types.{Decline, Counts, Progress}
 use Rattle.verify.specs.Check.{Checked, check_number, check_counts, layer_c, begin, finish, check}
 use Rattle.verify.specs.Acceptance.{tree_counts}
-use Rattle.verify.proofs.Going.{Says, says-leb, says-eqb, says-and, Runs}
+use Rattle.std.specs.Bool.{Decides}
+use Rattle.std.proofs.lemmas.Bool.Decides.{Decides-and, Decides-eqb}
+use Rattle.verify.proofs.Going.{says-leb, Runs}
 use Rattle.verify.proofs.Places.{last_n, linked-last_n}
 use Rattle.verify.proofs.Sound.{added, after_n, same-counts, SoundN}
 use Rattle.verify.proofs.Slots.{SoundLayer}
@@ -29,13 +31,13 @@ record Headed (image : List ℕ) : Type 0 where
   first-edition : edition image ≡ 1
 
 module _ (image : List ℕ) where
-  says_sized : Says (length_ok (length image)) ((440 ≤ length image) × ((length image ≤ 16777216) × (length image % 8 ≡ 0)))
+  says_sized : Decides (length_ok (length image)) ((440 ≤ length image) × ((length image ≤ 16777216) × (length image % 8 ≡ 0)))
   unfolding length_ok
-  says_sized = says-and (says-leb 440 (length image)) (says-and (says-leb (length image) 16777216) (says-eqb (length image % 8) 0))
+  says_sized = Decides-and _ _ (says-leb 440 (length image)) (Decides-and _ _ (says-leb (length image) 16777216) (Decides-eqb (length image % 8) 0))
 
-  says_trailer : Says (eqb (stated_length image) (length image) && eqb (edition image) 1)
+  says_trailer : Decides (eqb (stated_length image) (length image) && eqb (edition image) 1)
       ((stated_length image ≡ length image) × (edition image ≡ 1))
-  says_trailer = says-and (says-eqb (stated_length image) (length image)) (says-eqb (edition image) 1)
+  says_trailer = Decides-and _ _ (Decides-eqb (stated_length image) (length image)) (Decides-eqb (edition image) 1)
 
   heading-headed : (u : Unit {0}) → heading image ≡ Ok u → Headed image
   unfolding heading
@@ -44,20 +46,15 @@ module _ (image : List ℕ) where
       pick_ind P (not (length_ok (length image))) (λ t e. absurd (cc))
       (λ t. pick_ind P (not (eqb (stated_length image) (length image) && eqb (edition image) 1)) (λ v e. absurd (cc))
       (λ v e.
-      let a = says_sized.holds (not-false _ t) in
-      let b = says_trailer.holds (not-false _ v) in
+      let a = says_sized.0 (not-false _ t) in
+      let b = says_trailer.0 (not-false _ v) in
       record { long = a.0; short = a.1.0; whole = a.1.1; stated = b.0; first-edition = b.1 }))
 
   headed-heading : Headed image → heading image ≡ Ok tt
   unfolding heading pick
-  headed-heading h = rw (says_sized.passes (h.long, (h.short, h.whole)), says_trailer.passes (h.stated, h.first-edition)) refl
+  headed-heading h = rw (says_sized.1 (h.long, (h.short, h.whole)), says_trailer.1 (h.stated, h.first-edition)) refl
 
--- AN ANSWER by `and_then` that is no decline, and one by a test.
-then-ok : {A B : Type 0} (x : Result A Decline) (f : A → Result B Decline) (z : B) → and_then x f ≡ Ok z → (y : A) × (x ≡ Ok y) × (f y ≡ Ok z)
-unfolding and_then
-then-ok (Ok y) f z e = (y, refl, e)
-then-ok (Err d) f z e = absurd (cc)
-
+-- AN ANSWER that is no decline, by a test.
 accepts : (t : Bool) (d : Decline) (x : Result Counts Decline) (c : Counts) → pick (not t) (Err d) x ≡ Ok c → (t ≡ true) × (x ≡ Ok c)
 unfolding pick
 accepts true d x c e = (refl, e)
@@ -99,19 +96,19 @@ module _ (image : List ℕ) where
   accepts_tree : (c : Counts) → check image ≡ Ok c → Obeys image × (c ≡ tree_counts (tree_of image))
   unfolding check finish whole after_n tree_counts SoundN
   accepts_tree c e =
-      let headed = then-ok (heading image) _ c e in
+      let headed = both_ok (heading image) _ c e in
       let h : Headed image = heading-headed image headed.0 headed.1 in
-      let done = then-ok whole (finish image) c headed.2 in
+      let done = both_ok whole (finish image) c headed.2 in
       let p : Progress = done.0 in
       let ended = accepts (eqb (p.place + 32) (length image)) _ _ c done.2 in
       let count = accepts (eqb (key_count image) p.live_slots) _ _ c ended.1 in
       let s : SoundLayer image 0 begin (tree_of image) = (run h.long).only p done.1 in
       let q : p ≡ after_n begin (tree_of image) = let f = sym done.1 ∙ (run h.long).comes s in cc in
       let n : c ≡ tree_counts (tree_of image) = let f = count.1 in let g = ap (λ (p : Progress). p.counts) q ∙ counted in cc in
-      let end = (says-eqb (p.place + 32) (length image)).holds ended.0 in
+      let end = (Decides-eqb (p.place + 32) (length image)).0 ended.0 in
       let to_trailer : end_n 8 (tree_of image) ≡ length image - 32 = omega (arith, end, ap (λ (p : Progress). p.place) q) in
       let links = subst (λ (x : ℕ). LinkedN x (tree_of image)) s.ends s.sound.links in
-      let live = (says-eqb (key_count image) p.live_slots).holds count.0 ∙ ap (λ (p : Progress). p.live_slots) q ∙ lively in
+      let live = (Decides-eqb (key_count image) p.live_slots).0 count.0 ∙ ap (λ (p : Progress). p.live_slots) q ∙ lively in
       (search, n)
 
   tree-accepted : Obeys image → check image ≡ Ok (tree_counts (tree_of image))

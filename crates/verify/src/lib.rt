@@ -1,17 +1,18 @@
 // The check of an image (01, "Check an image"): one pass over the tree in post-order, the first fault deciding.
 //
-// Interface: `check_image`, which takes any byte slice and has no `requires`, and its answer, `Counts` or a decline. The other functions
-// serve it. Two of them are in a cycle, as 01 names them: checking a subtree calls for checking its layers, and a layer its
-// subtree. All that only reads and tests stands outside the cycle.
+// Interface: `check_image`, which takes any byte slice and has no `requires`, and its answer: `Counts`, which Display shows, or a decline.
+// The other functions serve it. Two of them are in a cycle, as 01 names them: checking a subtree calls for checking its layers, and a
+// layer its subtree. All that only reads and tests stands outside the cycle.
 #![tactic(auto)]
 
 mod pass;
 mod record;
 mod slot;
 
-ghost use Rattle.std.specs.Prelude.{◌≡◌, ◌+◌, ◌*◌, ◌-◌, ◌≤◌};
+ghost use Rattle.std.specs.Prelude.{◌≡◌, ◌+◌, ◌*◌, ◌-◌, ◌≤◌, Some};
 ghost use Rattle.verify.specs.Check.{node_c, check};
 ghost use Rattle.verify.specs.CodeCases.{sub_c, leaf_parts, LeafTold, Bounded, Sized};
+ghost use Rattle.verify.specs.Shown.{counts_text};
 
 use base::Decline;
 use node::internode::{INTERNODE_SIZE, InternodeReader};
@@ -19,7 +20,10 @@ use node::leaf::LeafReader;
 use node::nodeversion::RecordKind;
 use node::permuter::{self, Position};
 use node::trailer::{self, Trailer};
+use pass::BoundedProgress;
+use record::Children;
 use slot::Slots;
+use std::fmt;
 
 // The three numbers of an accepted image.
 #[derive(Clone, Copy, Debug, PartialEq, Eq)]
@@ -27,6 +31,20 @@ pub struct Counts {
     pub leaves: usize,
     pub value_slots: usize,
     pub sub_layers: usize,
+}
+
+// Counts are shown as the programs print them: the three numbers in this order, with a space between.
+impl fmt::Display for Counts {
+    ghost output = { λ c. Some (counts_text c) };
+
+    fn fmt<W: fmt::Write>(&self, f: &mut fmt::Formatter<W>) -> fmt::Result {
+        let Counts {
+            leaves,
+            value_slots,
+            sub_layers,
+        } = *self;
+        write!(f, "{leaves} {value_slots} {sub_layers}")
+    }
 }
 
 // An image whose length the check takes.
@@ -62,14 +80,16 @@ pub enum SlotCheck {
 }
 
 // The check of any bytes: their number of leaves, value slots and sub-layers, or the first fault.
+#[tactic(auto, using(crate::proofs::Cycle::whole), unfolding(crate::specs::Check::check, base::specs::Decline::and_then))]
 pub fn check_image(image: &[u8]) -> Result<Counts, Decline>
     ensures { result ≡ check image.now }
 {
     trailer::check_heading(image)?;
     let sized = SizedImage { bytes: image };
     let trailer = Trailer { image };
-    let q = check_subtree(sized, 31, 12, trailer.root(), LAYER_ENDS, pass::begin())?;
-    pass::finish(trailer, pass::end_layer(q)?)
+    let q = check_subtree(sized, 31, 12, trailer.root(), LAYER_ENDS, Progress::begin())?;
+    let progress = q.end_layer()?;
+    BoundedProgress { progress }.finish(trailer)
 }
 
 // A layer's ends.
@@ -80,6 +100,7 @@ const LAYER_ENDS: Ends = Ends {
 
 // The subtree at an offset, in a layer that `below` more may lie below, with `path` internodes left on a path.
 #[cycle(check_layers_check_subtree)]
+#[tactic(auto, using(crate::proofs::Cycle::parts), unfolding(base::specs::Decline::and_then, crate::specs::CodeCases::after_record, crate::specs::CodeCases::after_slot))]
 fn check_subtree(
     image: SizedImage,
     below: usize,
@@ -101,19 +122,20 @@ fn check_subtree(
                 image: image.bytes,
                 at: place,
             };
+            let children = Children { node, ends };
             // Children are counted: they are words of the image behind a reader, and no slice.
-            for i in 0..record::child_count(node) {
+            for i in 0..children.count() {
                 let child = node.child(i);
-                let child_ends = record::child_ends(node, ends, i);
-                p = check_subtree(image, below, path - 1, child, child_ends, p)?;
+                p = check_subtree(image, below, path - 1, child, children.ends(i), p)?;
             }
-            pass::end_record(place, INTERNODE_SIZE, p)
+            p.end_record(place, INTERNODE_SIZE)
         }
     }
 }
 
 // The leaf at an offset: its used slots, each layer among them with its subtree, and then its end.
 #[cycle(check_layers_check_subtree)]
+#[tactic(auto, using(crate::proofs::Cycle::parts), unfolding(base::specs::Decline::and_then, crate::specs::CodeCases::after_record, crate::specs::CodeCases::after_slot))]
 fn check_layers(
     image: SizedImage,
     below: usize,
@@ -138,15 +160,16 @@ fn check_layers(
     };
     // Positions are counted: the order is one number.
     for i in 0..permuter::size(slots.permutation) {
-        let found = slots.check(Position(i), p)?;
+        let so_far = BoundedProgress { progress: p };
+        let found = slots.check(Position(i), so_far)?;
         p = match found {
             SlotCheck::Passed(q) => q,
             SlotCheck::Layer(root) => {
-                let inside = pass::enter_layer(p);
+                let inside = so_far.enter_layer();
                 let q = check_subtree(image, below - 1, 12, root, LAYER_ENDS, inside)?;
-                pass::leave_layer(p, pass::end_layer(q)?)
+                q.end_layer()?.leave_layer(p)
             }
         };
     }
-    pass::end_leaf(leaf, p)
+    BoundedProgress { progress: p }.end_leaf(leaf)
 }

@@ -1,5 +1,5 @@
 // A record, from being reached up to its parts (01's numbers 3, 4, 9, 5 and 8), and an internode's children.
-ghost use Rattle.std.specs.Prelude.{◌≡◌, ◌+◌, ◌≤◌, ◌<◌};
+ghost use Rattle.std.specs.Prelude.{ℕ, ◌≡◌, ◌+◌, ◌≤◌, ◌<◌};
 ghost use Rattle.node.specs.Layout.{version_at, nkeys_at, separator_at};
 ghost use Rattle.verify.specs.Check.{reachable, permutes, separators_from, low_end, high_end};
 ghost use Rattle.verify.specs.CodeCases.{leaf_check, internode_check, record_check};
@@ -10,6 +10,14 @@ use node::internode::{INTERNODE_SIZE, InternodeReader};
 use node::leaf::{LEAF_SIZE, LeafReader};
 use node::nodeversion::{self, RecordKind};
 use node::permuter::{self, Position};
+
+// An internode's children: the internode, which has at most fifteen separators, each above 0; and the ends of its ikeys.
+#[derive(Clone, Copy)]
+pub struct Children<'a> {
+    pub node: InternodeReader<'a>,
+    pub ends: Ends,
+    ghost separated: { (i : ℕ) → i < nkeys_at node.image.now node.at → (i < 15) × (0 < separator_at node.image.now node.at i) },
+}
 
 // Number 3, for a record of `size` bytes.
 #[tactic(auto, using(std::proofs::lemmas::Bool::Decides::nat_tests), unfolding(crate::specs::Check::reachable))]
@@ -22,6 +30,7 @@ fn is_reachable(image: SizedImage, size: usize, at: u64, p: Progress) -> bool
 }
 
 // Number 5: the fifteen fields are a permutation of 0 to 14, each below 15 and seen once. (Positions are counted: the order is one number.)
+#[tactic(auto, using(crate::proofs::RecordTests::fresh_none, crate::proofs::RecordTests::permutes_none, crate::proofs::RecordTests::permutes_next, std::proofs::lemmas::Bool::Decides::nat_tests), unfolding(crate::specs::Check::permutes))]
 fn is_permutation(permutation: u64) -> bool
     ensures { result ≡ permutes permutation }
 {
@@ -63,6 +72,7 @@ fn leaf_check(image: SizedImage, version: u32, at: u64, p: Progress) -> Result<R
 }
 
 // Number 8: n separators ascend strictly, from above lo up to `top` at most. (They are counted, as in the search.)
+#[tactic(auto, using(crate::proofs::RecordTests::separators_none, crate::proofs::RecordTests::separators_next, std::proofs::lemmas::Bool::Decides::nat_tests))]
 fn has_separators(node: InternodeReader, ends: Ends, n: usize) -> bool
     requires { n ≤ 15 }
     ensures { result ≡ separators_from node.entry.image.now node.entry.at ends.lo (ends.top + 1) 0 n }
@@ -94,7 +104,8 @@ fn internode_check(node: InternodeReader, path: usize, ends: Ends) -> Result<Rec
 }
 
 // A record on being reached, with `path` internodes left to it. Its leaf bit is read where an internode would lie before
-// the trailer; a leaf is longer.
+// the trailer; a leaf is longer. (It answers the kind alone, where search's `record_at` answers a reader: here two functions hand their
+// answers on to a third, and with an enum of `Slots` and `Children` each of the three would owe clauses of kind, place and ends besides its equation.)
 #[tactic(auto, using(std::proofs::lemmas::Bool::Decides::nat_tests), unfolding(crate::specs::CodeCases::record_check, crate::specs::Check::reachable, base::specs::Pick::pick))]
 pub fn record_check(
     image: SizedImage,
@@ -119,45 +130,46 @@ pub fn record_check(
     internode_check(node, path, ends)
 }
 
-// An internode's children: one more than its keys.
-pub fn child_count(node: InternodeReader) -> usize
-    ensures { result ≡ nkeys_at node.entry.image.now node.entry.at + 1 }
-{
-    usize::from(node.nkeys()) + 1
-}
-
-// The least ikey of child i: the separator before it, or the internode's own.
-#[tactic(auto, using(std::proofs::lemmas::Bool::Decides::nat_tests), unfolding(crate::specs::Check::low_end))]
-fn low_end(node: InternodeReader, lo: u64, i: usize) -> u64
-    requires { i < 16 }
-    ensures { result ≡ low_end node.entry.image.now node.entry.at lo i }
-{
-    if i == 0 {
-        return lo;
+impl<'a> Children<'a> {
+    // One more than the keys.
+    pub fn count(self) -> usize
+        ensures { result ≡ nkeys_at self.entry.node.image.now self.entry.node.at + 1 }
+    {
+        usize::from(self.node.nkeys()) + 1
     }
-    node.separator(i - 1)
-}
 
-// The greatest ikey of child i: below the separator behind it, or the internode's own.
-fn high_end(node: InternodeReader, top: u64, i: usize) -> u64
-    requires { i < nkeys_at node.image.now node.at → (i < 15) × (0 < separator_at node.image.now node.at i) }
-    ensures { result + 1 ≡ high_end node.entry.image.now node.entry.at (top + 1) i }
-{
-    if i < usize::from(node.nkeys()) {
-        return node.separator(i) - 1;
+    // The least ikey of child i: the separator before it, or the internode's own.
+    #[tactic(auto, using(std::proofs::lemmas::Bool::Decides::nat_tests), unfolding(crate::specs::Check::low_end))]
+    fn low_end(self, i: usize) -> u64
+        requires { i < 16 }
+        ensures { result ≡ low_end self.entry.node.image.now self.entry.node.at self.entry.ends.lo i }
+    {
+        if i == 0 {
+            return self.ends.lo;
+        }
+        self.node.separator(i - 1)
     }
-    top
-}
 
-// The ends of child i. (The three take reader and i, and each another part of the ends: a struct of them would be taken apart in each.)
-pub fn child_ends(node: InternodeReader, ends: Ends, i: usize) -> Ends
-    requires i_bound { i < 16 }
-    requires separated { i < nkeys_at node.image.now node.at → (i < 15) × (0 < separator_at node.image.now node.at i) }
-    ensures lo { result.lo ≡ low_end node.entry.image.now node.entry.at ends.lo i }
-    ensures top { result.top + 1 ≡ high_end node.entry.image.now node.entry.at (ends.top + 1) i }
-{
-    Ends {
-        lo: low_end(node, ends.lo, i),
-        top: high_end(node, ends.top, i),
+    // The greatest ikey of child i: below the separator behind it, or the internode's own.
+    #[tactic(auto, using(std::proofs::lemmas::Bool::Decides::nat_tests), unfolding(crate::specs::Check::high_end, base::specs::Pick::pick))]
+    fn high_end(self, i: usize) -> u64
+        ensures { result + 1 ≡ high_end self.entry.node.image.now self.entry.node.at (self.entry.ends.top + 1) i }
+    {
+        if i < usize::from(self.node.nkeys()) {
+            return self.node.separator(i) - 1;
+        }
+        self.ends.top
+    }
+
+    // The ends of child i.
+    pub fn ends(self, i: usize) -> Ends
+        requires { i < 16 }
+        ensures lo { result.lo ≡ low_end self.entry.node.image.now self.entry.node.at self.entry.ends.lo i }
+        ensures top { result.top + 1 ≡ high_end self.entry.node.image.now self.entry.node.at (self.entry.ends.top + 1) i }
+    {
+        Ends {
+            lo: self.low_end(i),
+            top: self.high_end(i),
+        }
     }
 }

@@ -2,11 +2,11 @@
 ghost use Rattle.std.specs.Prelude.{◌≡◌, ◌+◌, ◌-◌, ◌%◌, ◌^◌, ◌≤◌, ◌<◌};
 ghost use Rattle.base.specs.Kit.{eqb};
 ghost use Rattle.node.specs.Permuter.{slot_at};
-ghost use Rattle.node.specs.Layout.{suffix_at, live_at};
-ghost use Rattle.verify.specs.Check.{listed, fits, before, in_range};
-ghost use Rattle.verify.specs.CodeCases.{keyed, keyed_at, suffix_check, kind_check, slot_check, Opened, Bounded};
+ghost use Rattle.verify.specs.Check.{listed, fits, before};
+ghost use Rattle.verify.specs.CodeCases.{keyed, keyed_at, suffix_check, kind_check, slot_check, Opened};
 
-use crate::{Ends, Progress, SlotCheck, pass};
+use crate::pass::BoundedProgress;
+use crate::{Ends, SlotCheck};
 use base::Decline;
 use node::leaf::{self, LeafReader, SlotKind, SlotReader, Suffix};
 use node::permuter::{self, Position};
@@ -24,6 +24,7 @@ pub struct Slots<'a> {
 }
 
 // An ikey is zero behind its first n bytes.
+#[tactic(auto, using(crate::proofs::SlotTests::filled))]
 fn is_filled(ikey: u64, n: u64) -> bool
     requires n_nonzero { 0 < n }
     requires n_bound { n ≤ 8 }
@@ -52,8 +53,8 @@ fn is_listed(depth: usize, slot: SlotReader) -> bool
 {
     match slot.kind() {
         SlotKind::Inline => is_inline_listed(depth, slot.ikey(), slot.keylenx()),
+        SlotKind::Suffix | SlotKind::Layer => true,
         SlotKind::Unlisted => false,
-        _ => true,
     }
 }
 
@@ -69,32 +70,34 @@ fn is_before(slot: SlotReader, next: SlotReader) -> bool
 }
 
 // Number 3 for a suffix of the leaf at `at`.
-fn suffix_check(at: usize, s: Suffix, live: bool, p: Progress) -> Result<SlotCheck, Decline>
-    requires bounded { Bounded 480 p }
-    requires at_bound { at ≤ 16777216 }
-    ensures { result ≡ suffix_check at s live p }
+#[tactic(auto, using(std::proofs::lemmas::Bool::Decides::nat_tests), unfolding(crate::specs::CodeCases::suffix_check, base::specs::Pick::pick))]
+fn suffix_check(at: usize, s: Suffix, live: bool, p: BoundedProgress) -> Result<SlotCheck, Decline>
+    requires { at ≤ 16777216 }
+    ensures { result ≡ suffix_check at s live p.progress }
 {
-    if s.start != p.place || at < s.start || at - s.start < s.len {
+    if s.start != p.progress.place || at < s.start || at - s.start < s.len {
         return Err(Decline::RecordPlace);
     }
-    Ok(SlotCheck::Passed(pass::pass_value(p, s.len.next_multiple_of(8), live)))
+    Ok(SlotCheck::Passed(p.pass_value(s.len.next_multiple_of(8), live)))
 }
 
 // A slot that passed numbers 6 to 8, by its kind. A layer's live bit is not read.
 #[tactic(auto, using(std::proofs::lemmas::Bool::Decides::nat_tests), unfolding(crate::specs::CodeCases::kind_check, node::specs::Layout::slot_kind, base::specs::Pick::pick))]
-fn check_kind(slot: SlotReader, p: Progress) -> Result<SlotCheck, Decline>
-    requires bounded { Bounded 480 p }
-    requires at_bound { slot.leaf.at ≤ 16777216 }
-    ensures { result ≡ kind_check slot.entry.leaf.image.now slot.entry.leaf.at slot.entry.slot p }
+fn check_kind(slot: SlotReader, p: BoundedProgress) -> Result<SlotCheck, Decline>
+    requires { slot.leaf.at ≤ 16777216 }
+    ensures { result ≡ kind_check slot.entry.leaf.image.now slot.entry.leaf.at slot.entry.slot p.progress }
 {
     match slot.kind() {
         SlotKind::Layer => Ok(SlotCheck::Layer(slot.value())),
         SlotKind::Suffix => suffix_check(slot.leaf.at, slot.ksuf(), slot.live(), p),
-        _ => Ok(SlotCheck::Passed(pass::pass_value(p, 0, slot.live()))),
+        SlotKind::Inline | SlotKind::Unlisted => {
+            Ok(SlotCheck::Passed(p.pass_value(0, slot.live())))
+        }
     }
 }
 
 impl<'a> Slots<'a> {
+    #[tactic(auto, using(crate::proofs::SlotTests::slot_inside))]
     fn slot(self, position: Position) -> SlotReader<'a>
         requires { position.0 < 15 }
         ensures leaf { result.leaf ≡ self.entry.leaf }
@@ -117,15 +120,15 @@ impl<'a> Slots<'a> {
                 0 < len && len <= 248 - 8 * self.depth
             }
             SlotKind::Layer => self.depth < 31,
-            _ => true,
+            SlotKind::Inline | SlotKind::Unlisted => true,
         }
     }
 
     // The slot at a position: it is listed, its key fits, and it lies behind the slot before it and between the leaf's ends.
-    pub fn check(self, position: Position, p: Progress) -> Result<SlotCheck, Decline>
-        requires position_bound { position.0 < 15 }
-        requires bounded { Bounded 480 p }
-        ensures { result ≡ slot_check self.entry.leaf.image.now self.entry.depth self.entry.leaf.at self.entry.ends.lo (self.entry.ends.top + 1) position.0 p }
+    #[tactic(auto, using(crate::proofs::SlotTests::in_order_at, std::proofs::lemmas::Bool::Decides::nat_tests), unfolding(crate::specs::CodeCases::slot_check, crate::specs::Check::in_range, base::specs::Pick::pick))]
+    pub fn check(self, position: Position, p: BoundedProgress) -> Result<SlotCheck, Decline>
+        requires { position.0 < 15 }
+        ensures { result ≡ slot_check self.entry.leaf.image.now self.entry.depth self.entry.leaf.at self.entry.ends.lo (self.entry.ends.top + 1) position.0 p.progress }
     {
         let slot = self.slot(position);
         if !is_listed(self.depth, slot) {

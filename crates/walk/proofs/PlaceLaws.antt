@@ -2,20 +2,15 @@
 use Rattle.std.specs.Prelude.{◌≡◌, ◌≤◌, Option, Some, None, Result, Ok, Err}
 use Rattle.base.specs.Kit.{refl, Bool, true, false, List, ℕ, length, ltb-false, not-false}
 use Rattle.base.specs.Pick.{pick}
-use Rattle.base.specs.Decline.{and_then, number_if}
+use Rattle.base.specs.Decline.{number_if}
 use Rattle.base.specs.declared.Decline.{Decline}
-use Rattle.base.proofs.Declines.{never-zero}
+use Rattle.base.proofs.Declines.{never-zero, both_ok}
 use Rattle.node.specs.Heading.{heading}
 use Rattle.node.proofs.HeadingLaws.{length-fits}
 use Rattle.walk.specs.Types.{From, Placed}
 use Rattle.walk.specs.Placing.{placing, code_of, place, place_short}
 
--- an answer that is Ok, by the answer before it and what follows; and one by a test that declines first
-both-ok : {A B : Type 0} (r : Result A Decline) (f : A → Result B Decline) (y : B) → and_then r f ≡ Ok y → (x : A) × (r ≡ Ok x) × (f x ≡ Ok y)
-unfolding and_then
-both-ok (Ok x) f y e = (x, refl, e)
-both-ok (Err d) f y e = cc
-
+-- an answer that is Ok, by a test that declines first
 missed : {A : Type 0} (t : Bool) (d : Decline) (rest : Result A Decline) (x : A) → pick t (Err d) rest ≡ Ok x → (t ≡ false) × (rest ≡ Ok x)
 unfolding pick
 missed true d rest x e = cc
@@ -29,7 +24,7 @@ pub placed_fits : (image key : List ℕ) (kind : ℕ) (bound : List ℕ) → pla
     → (440 ≤ length image) × (length key ≤ 256) × (kind ≤ 2) × (length bound ≤ 256)
 unfolding placing
 placed_fits image key kind bound e =
-    let h = both-ok _ _ _ e in
+    let h = both_ok _ _ _ e in
     let k = missed _ _ _ _ h.2 in
     let l = missed _ _ _ _ k.1 in
     let b = missed _ _ _ _ l.1 in

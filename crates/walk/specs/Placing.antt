@@ -1,5 +1,5 @@
 -- Placing a walk, over any bytes (01, "Place a walk").
-use Rattle.std.specs.Prelude.{None, Some, Result, Ok, Err}
+use Rattle.std.specs.Prelude.{Option, None, Some, Result, Ok, Err}
 use Rattle.base.specs.Kit.{List, ℕ, ltb, length}
 use Rattle.base.specs.Pick.{pick}
 use Rattle.base.specs.Decline.{number_if, and_then}
@@ -43,6 +43,14 @@ place image mode key kind bound = placed_by (placing image key kind bound) (fres
 -- "A declined call returns its number": a placing's, 0 where it is not declined.
 unfoldable pub code_of : Placed → ℕ
 code_of p = number_if p.declined
+
+-- The walk, and of a declined placing its decline in the place of one.
+abbrev pub walk_unless : Option Decline → Walk → Result Walk Decline
+walk_unless None w = Ok w
+walk_unless (Some d) w = Err d
+
+unfoldable pub accepted : Placed → Result Walk Decline
+accepted p = walk_unless p.declined p.walk
 
 -- "A short form has no start mode"; 02 [6]: "From now on it means from."
 unfoldable pub place_short : List ℕ → List ℕ → ℕ → List ℕ → Placed

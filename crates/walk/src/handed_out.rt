@@ -4,7 +4,7 @@ ghost use Rattle.walk.specs.Walk.{nothing_yet, one_more};
 
 use crate::scan_state::HandedOut;
 
-// Before the first key.
+// Before the first key. (A function, and no const: a const has no clause, and this one's is the definition's.)
 pub fn nothing_yet() -> HandedOut
     ensures { result ≡ nothing_yet }
 {

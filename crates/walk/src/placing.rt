@@ -1,7 +1,7 @@
 // Placing a walk (01, "Place a walk"): `place` and its short form take anything.
 ghost use Rattle.std.specs.Prelude.{◌≡◌, Ok};
 ghost use Rattle.walk.specs.Walk.{new_walk, zero_walk};
-ghost use Rattle.walk.specs.Placing.{placing, start_state, fresh_walk, code_of, place, place_short};
+ghost use Rattle.walk.specs.Placing.{placing, start_state, fresh_walk, code_of, accepted, place, place_short};
 
 use crate::handed_out;
 use crate::scan_state::{EMPTY_CONTEXT, Placed, Walk, WalkState};
@@ -38,8 +38,9 @@ fn new_walk(
     }
 }
 
-// The walk of a declined placing: all zero, ended.
-#[tactic(auto, unfolding(crate::specs::Walk::zero_walk))]
+// The walk of a declined placing: all zero, ended. (Its cursor is from_slice(b"")'s. Tried: that call, the proof did not close: it stands on
+// definitions of `key`, which this crate does not name.)
+#[tactic(auto, unfolding(crate::specs::Walk::zero_walk, cursor::specs::RangeBound::bound_of, base::specs::Pick::pick))]
 fn zero_walk() -> Walk
     ensures { result ≡ zero_walk }
 {
@@ -49,11 +50,7 @@ fn zero_walk() -> Walk
         len: 0,
         ikey: 0,
     };
-    let bound = RangeBound {
-        kind: 0,
-        len: 0,
-        key: [0u8; 256],
-    };
+    let bound = range_bound::bound_of(0, b"");
     new_walk(0, 0, cursor, bound, StartMode::Above, WalkState::Ended)
 }
 
@@ -106,12 +103,23 @@ fn fresh_walk(image: &[u8], mode: StartMode, cursor: &[u8], kind: u8, bound: &[u
 }
 
 impl Placed {
-    // Its number, 0 where it is not declined. (No code here calls it: it is for callers that keep a number.)
+    // Its number, 0 where it is not declined.
     #[tactic(auto, unfolding(crate::specs::Placing::code_of))]
     pub fn code(&self) -> u8
         ensures { result ≡ code_of self.now }
     {
         number_if(self.declined)
+    }
+
+    // Its walk, or its decline in the place of the all-zero one.
+    #[tactic(auto, unfolding(crate::specs::Placing::accepted))]
+    pub fn accepted(self) -> Result<Walk, Decline>
+        ensures { result ≡ accepted self }
+    {
+        match self.declined {
+            None => Ok(self.walk),
+            Some(decline) => Err(decline),
+        }
     }
 }
 

@@ -14,13 +14,13 @@ pub struct LayerContext {
 // What the stack holds past its last entry.
 pub const EMPTY_CONTEXT: LayerContext = LayerContext { root: 0, leaf: 0 };
 
-// A walk's state between calls.
+// A walk's state between calls. Its number is that of a walk's record.
 #[derive(Clone, Copy, Debug, PartialEq, Eq)]
 pub enum WalkState {
-    Start,
-    Retry,
-    FindNext,
-    Ended,
+    Start = 0,
+    Retry = 1,
+    FindNext = 2,
+    Ended = 3,
 }
 
 // What a walk has handed out: the depth at which the last key was found, and how many keys; zeros before the first.

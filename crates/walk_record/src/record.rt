@@ -1,7 +1,7 @@
 // A walk and the record in which it crosses to C: 76 numbers and two buffers of 256 bytes, which the caller lends.
 ghost use Rattle.std.specs.Prelude.{◌≡◌, ◌≤◌};
 ghost use Rattle.base.specs.Kit.{get_or};
-ghost use Rattle.walk_record.specs.Record.{kind_at, mode_number, mode_of, state_number, state_of, numbers_of, entries, read_walk, is_readable};
+ghost use Rattle.walk_record.specs.Record.{kind_at, mode_of, state_number, state_of, numbers_of, entries, read_walk, is_readable};
 ghost use Rattle.walk_record.specs.CodeLaid.{head_of, read_cursor, read_bound, read_handed};
 
 use crate::layout;
@@ -18,14 +18,9 @@ pub fn is_readable(numbers: &[u64; layout::NUMBERS]) -> bool
     numbers[layout::KIND] <= 255 && numbers[layout::STATE] <= 3 && numbers[layout::MODE] <= 1
 }
 
-#[tactic(auto, unfolding(crate::specs::Record::mode_number))]
-fn mode_number(mode: StartMode) -> u64
-    ensures { result ≡ mode_number mode }
-{
-    mode as u64
-}
-
-// Of any number, as a record may hold it: `is_readable` tells which are a mode's. (No TryFrom: number and enum are other crates'.)
+// Of any number, as a record may hold it: `is_readable` tells which are a mode's. (No TryFrom: `read_walk` takes a record of any numbers, so
+// the error would be dropped right here, by `unwrap_or(StartMode::From)`, and the arms would be three. No From<u64>: it would give a type of
+// the walk a meaning for every number, which only the record has.)
 #[tactic(auto, using(std::proofs::lemmas::Bool::Decides::nat_tests), unfolding(crate::specs::Record::mode_of, base::specs::Pick::pick))]
 fn mode_of(n: u64) -> StartMode
     ensures { result ≡ mode_of n }
@@ -36,6 +31,8 @@ fn mode_of(n: u64) -> StartMode
     }
 }
 
+// A state's number, as a record has it. (A mode's is `as u64` in its place: it is written once. record_step writes and tests a state too, and
+// its clauses name this one's definition.)
 #[tactic(auto, unfolding(crate::specs::Record::state_number))]
 pub fn state_number(state: WalkState) -> u64
     ensures { result ≡ state_number state }
@@ -43,7 +40,7 @@ pub fn state_number(state: WalkState) -> u64
     state as u64
 }
 
-// Of any number too.
+// Of any number too, and no TryFrom or From<u64> for the same reasons.
 #[tactic(auto, using(std::proofs::lemmas::Bool::Decides::nat_tests), unfolding(crate::specs::Record::state_of, base::specs::Pick::pick))]
 fn state_of(n: u64) -> WalkState
     ensures { result ≡ state_of n }
@@ -57,7 +54,7 @@ fn state_of(n: u64) -> WalkState
 }
 
 // The walk's numbers before the stack's, which are zero yet.
-#[tactic(auto, unfolding(crate::specs::CodeLaid::head_of))]
+#[tactic(auto, unfolding(crate::specs::CodeLaid::head_of, crate::specs::Record::mode_number))]
 fn head_of(walk: Walk) -> [u64; layout::NUMBERS]
     ensures { result ≡ head_of walk }
 {
@@ -74,14 +71,15 @@ fn head_of(walk: Walk) -> [u64; layout::NUMBERS]
     n[layout::KIND] = u64::from(walk.bound.kind);
     n[layout::BOUND_LEN] = walk.bound.len as u64;
     n[layout::STATE] = state_number(walk.state);
-    n[layout::MODE] = mode_number(walk.mode);
+    n[layout::MODE] = walk.mode as u64;
     n[layout::LAST_DEPTH] = walk.handed.depth as u64;
     n[layout::COUNT] = walk.handed.count as u64;
     n
 }
 
-// All numbers of a walk.
-#[tactic(auto, using(crate::proofs::Turns::spread_done, crate::proofs::Turns::spread_all))]
+// All numbers of a walk. (Tried: `n[STACK..].chunks_exact_mut(2)` beside the stack, the proof did not close: after such a loop nothing is known
+// of what it wrote.)
+#[tactic(auto, using(crate::proofs::Turns::spread_more, crate::proofs::Turns::spread_done, crate::proofs::Turns::spread_all))]
 fn numbers_of(walk: Walk) -> [u64; layout::NUMBERS]
     ensures { result ≡ numbers_of walk }
 {
@@ -116,7 +114,9 @@ pub fn put_walk(
     bound.copy_from_slice(&walk.bound.key);
 }
 
-#[tactic(auto, using(crate::proofs::Turns::fill_done, crate::proofs::Turns::fill_all))]
+// The stack of a record. (Tried: `stack.iter_mut().zip(numbers[STACK..].chunks_exact(2))`, the proof did not close: behind a `zip` of
+// `iter_mut` nothing is known of what the loop wrote.)
+#[tactic(auto, unfolding(crate::specs::Record::entry_at), using(crate::proofs::Turns::fill_more, crate::proofs::Turns::fill_done, crate::proofs::Turns::fill_all))]
 fn read_stack(numbers: &[u64; layout::NUMBERS]) -> [LayerContext; 31]
     ensures { result ≡ entries numbers.now 0 31 }
 {

@@ -1,8 +1,7 @@
 -- `builder::build` meets its contract: each return is one of the answer's cases.
-use Rattle.std.specs.Prelude.{◌≡◌, ◌+◌}
-use Rattle.base.specs.Kit.{refl, sym, ◌∙◌, arith, length, take, length-take-le}
+use Rattle.base.specs.Kit.{refl, sym, ◌∙◌, arith, length-take-le}
 use Rattle.base.proofs.Declines.{handed_on}
-use Rattle.builder.proofs.Answered.{sheet_declined, taken, size-bound, too_long, long, too_short, image-written}
+use Rattle.builder.proofs.Answered.{sheet_declined, taken, too_long, long, too_short, image-written}
 use Rattle.builder.proofs.build.Goals as goal
 use Rattle.builder.proofs.build.Goals.{then-end-gt-LONGEST-via-then-end-gt-LONGEST, then-end-gt-LONGEST-via-else-end-gt-LONGEST+then-out-end}
 
@@ -13,9 +12,6 @@ returns-in_err-opened c =
 pub invariant_of-top : goal.invariant_of-top
 invariant_of-top c = record { fit = (taken _ _ c.in_ok-opened.ensures).fit }
 
-pub overflow_add-end : goal.overflow_add-end
-overflow_add-end c = omega (arith, size-bound _ _ c.in_ok-opened.ensures _ c.layer_size-size.ensures)
-
 pub returns-then-end-gt-LONGEST : goal.returns-then-end-gt-LONGEST
 returns-then-end-gt-LONGEST c = elim c.then-end-gt-LONGEST.branch [
   | then-end-gt-LONGEST-via-then-end-gt-LONGEST w ↦
@@ -24,14 +20,9 @@ returns-then-end-gt-LONGEST c = elim c.then-end-gt-LONGEST.branch [
       too_short _ _ c.in_ok-opened.ensures _ c.layer_size-size.ensures (omega (arith, w.if-end-gt-LONGEST.false)) _ w.if-out-end.true
 ]
 
-pub write_image-requires : goal.write_image-requires
-write_image-requires c =
-    let e = c.in_ok-opened.ensures in
-    let n : length (take (c.layer_size-size.result + 40) c.args.out.now) ≡ c.layer_size-size.result + 40 = length-take-le _ _ (omega arith) in record {
-      is_top = refl;
-      out_len = n ∙ sym (long _ _ e _ c.layer_size-size.ensures (omega arith));
-      out_len_bound = omega arith;
-    }
+pub write_image-requires-clause-out_len : goal.write_image-requires-clause-out_len
+write_image-requires-clause-out_len c =
+    length-take-le _ _ (omega arith) ∙ sym (long _ _ c.in_ok-opened.ensures _ c.layer_size-size.ensures (omega arith))
 
 pub returns : goal.returns
 returns c =

@@ -1,40 +1,33 @@
--- The six functions of the cycle meet their contracts.
+-- The six functions of the cycle meet their contracts: what is left besides the rules of their attributes.
 use Rattle.std.specs.Prelude.{◌⊎◌, ◌≡◌, ◌≤◌, ◌<◌}
 use Rattle.base.specs.Kit.{inl, inr, refl, ap, ◌∙◌, arith, length, rules}
 use Rattle.groups.specs.declared.LayerLines.{LayerLines}
 use Rattle.groups.proofs.Firsts.{first_few, begins, rest_slots}
 use Rattle.layers_out.proofs.LeafParts.{whole-fits, groups_end, groups-stop, group-holds, group-room, groups_turn}
-use Rattle.layers_out.proofs.Leaf.{groups-room, record-fits, slots_held, link_fits, leaf-is}
-use Rattle.layers_out.proofs.Growth.{low-room, low_wrote, first-room, then-room, up_wrote, first_few as layer_few, leaf_room, loop_begins, level_low, inside, level-room, loop_turns, layer-is}
-use Rattle.layers_out.proofs.Beside.{siblings-begin, next-room, child_fits, siblings_turn, internode-fits, internode-is}
+use Rattle.layers_out.proofs.Leaf.{slots_held, link_fits, leaf-is}
+use Rattle.layers_out.proofs.Growth.{low_wrote, up_wrote, loop_begins, level_low, inside, level-room, loop_turns, layer-is}
+use Rattle.layers_out.proofs.Beside.{next-room, child_fits, siblings_turn, internode-fits, internode-is}
 use Rattle.layers_out.proofs.Lines.{some-slots, no-slots}
-use Rattle.layers_out.proofs.GroupParts.{slots-sum, shorts-few, rest-few, shorts-given, shorts-room, shorts_only, long-room, suffix-given, suffix-room, suffix-laid, head_line, layer-room, layer-laid}
+use Rattle.layers_out.proofs.GroupParts.{slots-sum, shorts-few, rest-few, shorts_only, suffix-given, suffix-room, suffix-laid, head_line, layer-room, layer-laid}
 use Rattle.image_out.proofs.Rows.{slots_n}
 use Rattle.layers_out.proofs.+layers.Goals as goal
 use Rattle.layers_out.proofs.+layers.Goals.{write_groups-else-loop-lines-test, write_groups-then-loop-lines-test+then-slotted-slots-gt15, write_internode-else-loop-test, write_internode-then-loop-test+then-q-eq0}
 
 -- ONE GROUP
-pub write_group-add_shorts-slots-requires : goal.write_group-add_shorts-slots-requires
-write_group-add_shorts-slots-requires t c = record {
-  short_lines = shorts-given c.args.first;
-  n_bound = shorts-few c.args.first;
-  holds_slots = shorts-room c.args.first _ c.requires.holds_slots;
-}
+pub write_group-add_shorts-slots-requires-clause-n_bound : goal.write_group-add_shorts-slots-requires-clause-n_bound
+write_group-add_shorts-slots-requires-clause-n_bound t c = shorts-few c.args.first
 
 pub write_group-returns-then-g-eq0 : goal.write_group-returns-then-g-eq0
 write_group-returns-then-g-eq0 t c =
     shorts_only c.args.first _ c.requires.holds_slots _ c.add_shorts-slots.ensures _ _ c.if-g-eq0.true
 
-pub write_group-add_suffix-requires : goal.write_group-add_suffix-requires
-write_group-add_suffix-requires t c =
-    let p = c.requires in
-    let one = c.if-g-eq1.true in
-    let e = c.add_shorts-slots.ensures in record {
-      long_line = suffix-given c.args.first _ p.holds_slots _ e one;
-      holds_slots = long-room c.args.first _ p.holds_slots _ e (omega arith);
-      line_in_bounds = suffix-room c.args.first _ p.holds_slots _ e one _ _ p.room;
-      out_len_bound = p.room.short;
-    }
+pub write_group-add_suffix-requires-clause-long_line : goal.write_group-add_suffix-requires-clause-long_line
+write_group-add_suffix-requires-clause-long_line t c =
+    suffix-given c.args.first _ c.requires.holds_slots _ c.add_shorts-slots.ensures c.if-g-eq1.true
+
+pub write_group-add_suffix-requires-clause-line_in_bounds : goal.write_group-add_suffix-requires-clause-line_in_bounds
+write_group-add_suffix-requires-clause-line_in_bounds t c =
+    suffix-room c.args.first _ c.requires.holds_slots _ c.add_shorts-slots.ensures c.if-g-eq1.true _ _ c.requires.room
 
 pub write_group-returns-then-g-eq1 : goal.write_group-returns-then-g-eq1
 write_group-returns-then-g-eq1 t c =
@@ -50,10 +43,6 @@ write_group-write_layer-r-requires t c = (
   layer-room c.args.first _ c.requires.holds_slots _ c.add_shorts-slots.ensures c.if-g-eq0.false c.if-g-eq1.false
       c.layer_below.result c.layer_below.ensures _ _ c.requires.room,
 )
-
-pub write_group-add_slot-requires : goal.write_group-add_slot-requires
-write_group-add_slot-requires t c =
-    long-room c.args.first _ c.requires.holds_slots _ c.add_shorts-slots.ensures (omega (arith, c.if-g-eq0.false))
 
 pub write_group-returns : goal.write_group-returns
 write_group-returns t c =
@@ -103,8 +92,6 @@ write_groups-returns t c =
     ]
 
 -- AN INTERNODE
-pub write_internode-loop-init : goal.write_internode-loop-init
-write_internode-loop-init t c = siblings-begin _ _ _ _ c.requires.room.some c.requires.room.behind c.first_child-c.ensures
 
 pub write_internode-write_subtree-q-requires : goal.write_internode-write_subtree-q-requires
 write_internode-write_subtree-q-requires t c =
@@ -144,83 +131,45 @@ write_internode-returns t c =
     internode-is _ _ _ _ _ _ _ c.loop.invariant c.requires.room over _ c.put_internode.ensures _
 
 -- A LAYER
-pub write_layer-invariant_of-begin : goal.write_layer-invariant_of-begin
-write_layer-invariant_of-begin t c = record { few = layer_few _ _ _ c.requires }
-
-pub write_layer-write_leaf-r-requires : goal.write_layer-write_leaf-r-requires
-write_layer-write_leaf-r-requires t c = (omega (arith, c.decreases), leaf_room _ _ _ c.requires)
 
 pub write_layer-loop-r-init : goal.write_layer-loop-r-init
-write_layer-loop-r-init t c = loop_begins _ _ _ c.requires _ _ _ c.write_leaf-r.ensures
+write_layer-loop-r-init t c = (loop_begins _ _ _ c.requires _ _ _ c.write_leaf-r.ensures, λ m. omega arith)
 
 pub write_layer-write_internode-r-requires : goal.write_layer-write_internode-r-requires
 write_layer-write_internode-r-requires t c =
     let p = c.requires in
     let w = c.write_leaf-r.ensures in
-    let inv = c.loop-r.invariant in
-    let low : c.loop-r.h ≤ 3 = level_low _ _ _ p _ _ _ w _ _ _ inv (omega arith) in
+    let inv = c.loop-r.invariant.0 in
     let same = (inside _ _ _ p _ _ _ w _ _ _ inv).below_same in
-    (omega (arith, low, same, c.decreases), (omega arith, level-room _ _ _ p _ _ _ w _ _ _ inv (omega arith)))
-
-pub write_layer-overflow_add-h : goal.write_layer-overflow_add-h
-write_layer-overflow_add-h t c =
-    let low = level_low _ _ _ c.requires _ _ _ c.write_leaf-r.ensures _ _ _ c.loop-r.invariant (omega arith) in
-    omega (arith, low)
-
-pub write_layer-loop-r-smaller : goal.write_layer-loop-r-smaller
-write_layer-loop-r-smaller t c =
-    let low = level_low _ _ _ c.requires _ _ _ c.write_leaf-r.ensures _ _ _ c.loop-r.invariant (omega arith) in
-    omega (arith, low)
+    (omega (arith, same, c.decreases), (omega arith, level-room _ _ _ p _ _ _ w _ _ _ inv (omega arith)))
 
 pub write_layer-loop-r-preserved : goal.write_layer-loop-r-preserved
 write_layer-loop-r-preserved t c =
-    loop_turns _ _ _ c.requires _ _ _ c.write_leaf-r.ensures _ _ _ c.loop-r.invariant (omega arith) _ _ c.write_internode-r.ensures
+    let p = c.requires in
+    let w = c.write_leaf-r.ensures in
+    let next = loop_turns _ _ _ p _ _ _ w _ _ _ c.loop-r.invariant.0 (omega arith) _ _ c.write_internode-r.ensures in
+    (next, λ m. level_low _ _ _ p _ _ _ w _ _ _ next m)
 
 pub write_layer-returns : goal.write_layer-returns
 write_layer-returns t c =
-    layer-is _ _ _ c.requires _ _ _ c.write_leaf-r.ensures _ _ _ c.loop-r.invariant (omega arith)
+    layer-is _ _ _ c.requires _ _ _ c.write_leaf-r.ensures _ _ _ c.loop-r.invariant.0 (omega arith)
 
 -- A LEAF
-pub write_leaf-write_groups-p-requires : goal.write_leaf-write_groups-p-requires
-write_leaf-write_groups-p-requires t c = (omega (arith, c.decreases), groups-room _ c.args.r c.requires)
 
-pub write_leaf-put_leaf-requires : goal.write_leaf-put_leaf-requires
-write_leaf-put_leaf-requires t c =
-    let l = c.write_groups-p.ensures in
-    record { at_in_bounds = record-fits _ c.args.r c.requires _ _ l; holds_slots = slots_held _ c.args.r c.requires _ _ l }
+pub write_leaf-put_leaf-requires-clause-holds_slots : goal.write_leaf-put_leaf-requires-clause-holds_slots
+write_leaf-put_leaf-requires-clause-holds_slots t c = slots_held _ c.args.r c.requires _ _ c.write_groups-p.ensures
 
 pub write_leaf-link-requires : goal.write_leaf-link-requires
 write_leaf-link-requires t c = link_fits _ c.args.r c.requires _ _ c.write_groups-p.ensures _ c.put_leaf.ensures
-
-pub write_leaf-overflow_add-result : goal.write_leaf-overflow_add-result
-write_leaf-overflow_add-result t c =
-    let f = record-fits _ c.args.r c.requires _ _ c.write_groups-p.ensures in
-    omega (arith, f)
 
 pub write_leaf-returns : goal.write_leaf-returns
 write_leaf-returns t c =
     leaf-is _ c.args.r c.requires _ _ c.write_groups-p.ensures _ c.put_leaf.ensures _ c.link.ensures _
 
 -- A SUBTREE
-pub write_subtree-write_leaf-requires : goal.write_subtree-write_leaf-requires
-write_subtree-write_leaf-requires t c =
-    (omega (arith, c.decreases), low-room _ _ c.args.r c.requires.left_nonzero c.requires.room c.if-h-eq0.true)
 
 pub write_subtree-returns-then-h-eq0 : goal.write_subtree-returns-then-h-eq0
 write_subtree-returns-then-h-eq0 t c = low_wrote _ _ c.args.r c.requires.left_nonzero c.requires.room c.if-h-eq0.true _ _ c.write_leaf.ensures
-
-pub write_subtree-write_subtree-q-requires : goal.write_subtree-write_subtree-q-requires
-write_subtree-write_subtree-q-requires t c =
-    let p = c.requires in
-    let z = c.if-h-eq0.false in
-    (omega (arith, z, c.decreases), (omega arith, (p.left_nonzero, first-room _ _ c.args.r p.left_nonzero p.room z)))
-
-pub write_subtree-write_internode-requires : goal.write_subtree-write_internode-requires
-write_subtree-write_internode-requires t c =
-    let p = c.requires in
-    let z = c.if-h-eq0.false in
-    let w = c.write_subtree-q.ensures in
-    (omega (arith, z, w.rest.below, c.decreases), (omega arith, then-room _ _ c.args.r p.left_nonzero p.room z _ _ w))
 
 pub write_subtree-returns : goal.write_subtree-returns
 write_subtree-returns t c =

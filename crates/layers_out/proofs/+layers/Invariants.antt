@@ -1,6 +1,6 @@
 -- What falls: 64 for each layer that may lie below, and in a layer the height of what is written. Each loop's invariant: what is left,
 -- written from here, comes to the same as the whole.
-use Rattle.std.specs.Prelude.{◌+◌, ◌*◌, ◌-◌}
+use Rattle.std.specs.Prelude.{◌+◌, ◌*◌, ◌-◌, ◌<◌, ◌≤◌}
 use Rattle.base.specs.Kit.{[], map, length}
 use Rattle.building.specs.Shape.{fill, leaf_of}
 use Rattle.building.specs.CodeOrder.{filled, left}
@@ -42,7 +42,7 @@ invariant-write_internode-loop l = SiblingsSoFar l.h l.fn.out l.r l.counter l.ou
 
 abbrev pub invariant-write_layer-loop-r : goal.invariant-write_layer-loop-r
 invariant-write_layer-loop-r l =
-    LayerLoop l.lines.below l.initial.out l.at (map leaf_of (fill 15 (slots_in l.lines))) l.h l.out l.r
+    LayerLoop l.lines.below l.initial.out l.at (map leaf_of (fill 15 (slots_in l.lines))) l.h l.out l.r × (0 < l.r.lines.left → l.h ≤ 3)
 
 abbrev pub decreases-write_layer-loop-r : goal.decreases-write_layer-loop-r
 decreases-write_layer-loop-r l = 4 - l.h

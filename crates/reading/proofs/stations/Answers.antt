@@ -1,18 +1,10 @@
 -- `reading::stations` meets its contract.
-use Rattle.std.specs.Prelude.{◌≡◌, ◌-◌}
 use Rattle.base.specs.Kit.{sym, ap, ◌∙◌, arith, length, length-drop}
 use Rattle.base.proofs.Count.{left-more}
-use Rattle.reading.proofs.Pairs.{line-none}
-use Rattle.reading.proofs.Rising.{risen_bad, risen_end}
 use Rattle.reading.proofs.Turns.{rest_is}
 use Rattle.reading.proofs.Whole.{text-fits, station_passed}
 use Rattle.reading.proofs.stations.Goals as goal
 use Rattle.reading.proofs.stations.Goals.{then-rising, else-rising}
-
-pub returns-in_err-line : goal.returns-in_err-line
-returns-in_err-line c =
-    let more = left-more c.args.count c.loop.counter c.loop-test.true in
-    rw c.from_residual.ensures (sym (risen_bad _ _ _ _ (line-none _ _ _ _ c.in_err-line.ensures)) ∙ (rw more at c.loop.invariant.1))
 
 pub overflow_mul-line : goal.overflow_mul-line
 overflow_mul-line c = omega (arith, text-fits _ _ _ _ c.in_ok-line.ensures, c.loop.invariant.0)
@@ -31,8 +23,3 @@ loop-preserved c =
             (sym (station_passed _ _ _ _ c.in_ok-line.ensures _ _ _) ∙ (rw (more, w.if-rising.false) at c.loop.invariant.1))
       ],
     )
-
-pub returns : goal.returns
-returns c =
-    let z : c.args.count - c.loop.counter ≡ 0 = omega arith in
-    sym (risen_end _ _ _) ∙ (rw z at c.loop.invariant.1)

@@ -1,13 +1,10 @@
--- The placing, then the count: each way out has its law.
-use Rattle.survey.proofs.Answers.{place-declines, counts}
+-- The placing declines.
+use Rattle.base.specs.Kit.{refl}
+use Rattle.base.proofs.Declines.{handed_on}
+use Rattle.survey.proofs.Answers.{place-declines}
 use Rattle.survey.proofs.tally.Goals as goal
 
-pub returns-in-Some : goal.returns-in-Some
-returns-in-Some c = place-declines _ _ _ _ _ c.in_ok-check_image.ensures _ c.place-placed.ensures _ c.in-Some.is
-
-pub returns-in-None : goal.returns-in-None
-returns-in-None c =
-    counts _ _ _ _ _ c.in_ok-check_image.ensures _ c.place-placed.ensures
-    (λ i. (c.type_inv.image i).fits)
-    (λ i. (c.type_inv.cursor i).fits)
-    c.in-None.is _ c.count_keys.ensures
+pub returns-in_err-walk : goal.returns-in_err-walk
+returns-in_err-walk c =
+    rw (handed_on _ _ _ c.from_residual-in_err-walk.ensures.1 refl)
+    (place-declines _ _ _ _ _ c.in_ok-check_image.ensures _ (rw c.place.ensures at c.in_err-walk.ensures))

@@ -23,5 +23,5 @@ invariant-check_layers-loop-i l =
 abbrev pub invariant-check_subtree-loop-i : goal.invariant-check_subtree-loop-i
 invariant-check_subtree-loop-i l =
     Bounded (15 * (31 - l.below)) l.p
-    × (each (child_c (sub_c l.image.bytes.now l.below) l.image.bytes.now (31 - l.below) l.at l.ends.lo (l.ends.top + 1) (l.path - 1)) l.i (nkeys_at l.image.bytes.now l.at + 1 - l.i) l.p
-    ≡ each (child_c (sub_c l.image.bytes.now l.below) l.image.bytes.now (31 - l.below) l.at l.ends.lo (l.ends.top + 1) (l.path - 1)) 0 (nkeys_at l.image.bytes.now l.at + 1) l.fn.p)
+    × (each (child_c (sub_c l.image.bytes.now l.below) l.image.bytes.now (31 - l.below) l.at l.fn.ends.lo (l.fn.ends.top + 1) (l.path - 1)) l.i (nkeys_at l.image.bytes.now l.at + 1 - l.i) l.p
+    ≡ each (child_c (sub_c l.image.bytes.now l.below) l.image.bytes.now (31 - l.below) l.at l.fn.ends.lo (l.fn.ends.top + 1) (l.path - 1)) 0 (nkeys_at l.image.bytes.now l.at + 1) l.fn.p)

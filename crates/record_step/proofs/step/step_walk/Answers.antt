@@ -1,4 +1,5 @@
 -- `step_walk` meets its contract: the number of the step decides.
+use Rattle.std.specs.Prelude.{◌≡◌, Ok}
 use Rattle.base.specs.Kit.{refl, ◌∙◌}
 use Rattle.base.proofs.Declines.{handed_on}
 use Rattle.walk_record.proofs.Told.{record_is}
@@ -19,5 +20,6 @@ returns-in_err-key c =
 pub returns : goal.returns
 returns c =
     let is = record_is _ _ _ c.told-numbers c.told-buf c.told-bound c.requires.numbers_readable in
-    taken _ _ _ _ _ c.told-out is _ c.read_walk.ensures _ c.step_of-s.ensures _
-    c.in_ok-key.was _ _ _ c.put_moved.ensures.0 c.put_moved.ensures.1 (c.copy_from_slice.ensures.after ∙ c.answer_numbers.ensures ∙ rw c.in_ok-key.was refl)
+    let ok : c.step_of-s.result.answer ≡ Ok c.in_ok-key.key = c.in_ok-key.was in
+    taken _ _ _ _ _ c.told-out is _ c.read_walk.ensures _ c.step_of-s.ensures _ ok _ _ _ c.put_moved.ensures.0 c.put_moved.ensures.1
+    (c.copy_from_slice.ensures.after ∙ c.answer_numbers.ensures ∙ rw ok refl)
