@@ -30,7 +30,8 @@ pub record Asked {A F R : Type 0} (g : Mut A (Bor (Request F) × (MutBor R × Un
   pub fits : Fits F m request.now
   pub called : Called g f (request, (input, tt)) (o, (left, tt)) f'
 
--- From f to f' by n calls at most, by which f goes as `Asks` says: none is behind one that gives None.
+-- From f to f' by n calls at most, by which f goes as `Asks` says: none is behind one that gives None. (That one
+-- is made at all it does not say: how many requests the input has is free.)
 unfoldable pub Answered : {A : Type 0} → (A → Option Unit → A → Type 0) → ℕ → A → A → Type 0
 Answered Asks zero f f' = f' ≡ f
 Answered {A} Asks (suc n) f f' = (f' ≡ f) ⊎ Asks f None f' ⊎ ((g : A) × Asks f (Some tt) g × Answered Asks n g f')

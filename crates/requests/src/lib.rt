@@ -6,7 +6,7 @@
 // the space cannot hold; a name is any bytes.
 //
 // Interface: `each`, the loop over them, which asks that its closure may be called at what it reads; `read`, with `Request` and `Mode`, and
-// `field`; `line`, which prints; `Hex` and `KeyText`, which show bytes and a key. These have no `requires`. specs/Requests.antt has what holds
+// `field`; `line`, which prints; `Hex` and `KeyText`, which show bytes and a key. But for `each` none has a `requires`. specs/Requests.antt has what holds
 // of what is read and of the calls, the input itself being free.
 #![tactic(auto)]
 
