@@ -10,8 +10,7 @@ use Rattle.walk.specs.Placing.{place, walk_unless, accepted}
 use Rattle.scan.specs.Machine.{step}
 use Rattle.walk.specs.declared.scan_state.Placed.{Placed}
 use Rattle.walk.specs.declared.scan_state.Walk.{Walk}
-use Rattle.walk.specs.Types.{Answer}
-use Rattle.walk.specs.declared.scan_state.Stepped.{Stepped}
+use Rattle.walk.specs.Types.{Answer, Stepped}
 use Rattle.bench_loops.specs.CodeCounting.{count_key, keys_from, none_if, keys_above}
 
 -- THE INVARIANT of a loop that began at the walk w₀: the keys counted and those still to be counted are all of them.

@@ -10,8 +10,7 @@ use Rattle.walk.specs.Walk.{keys_of}
 use Rattle.walk.specs.Placing.{place}
 use Rattle.scan.specs.Machine.{step}
 use Rattle.walk.specs.declared.scan_state.Walk.{Walk}
-use Rattle.walk.specs.Types.{Answer}
-use Rattle.walk.specs.declared.scan_state.Stepped.{Stepped}
+use Rattle.walk.specs.Types.{Answer, Stepped}
 
 -- A form of the step: whatever it may return of a walk and an image is the step's.
 abbrev pub IsStep : (Walk → Bor (List ℕ) → Stepped → Type 0) → Type 0

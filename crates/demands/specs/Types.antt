@@ -17,12 +17,11 @@ pub use Rattle.moves.specs.declared.context.ScanState.{ScanState}
 pub use Rattle.moves.specs.declared.context.ScanState.TheVariants.{Retry as ScanStateRetry, FindNext, Up, Start as ScanStateStart}
 pub use Rattle.node.specs.declared.permuter.Position.{Position}
 pub use Rattle.node.specs.declared.permuter.Slot.{Slot}
-pub use Rattle.walk.specs.Types.{Answer}
+pub use Rattle.walk.specs.Types.{Answer, Stepped}
 pub use Rattle.walk.specs.declared.scan_state.KeyOut.{KeyOut}
 pub use Rattle.walk.specs.declared.scan_state.HandedOut.{HandedOut}
 pub use Rattle.walk.specs.declared.scan_state.LayerContext.{LayerContext}
 pub use Rattle.walk.specs.declared.scan_state.Placed.{Placed}
-pub use Rattle.walk.specs.declared.scan_state.Stepped.{Stepped}
 pub use Rattle.walk.specs.declared.scan_state.Walk.{Walk}
 pub use Rattle.walk.specs.declared.scan_state.WalkState.{WalkState}
 pub use Rattle.walk.specs.declared.scan_state.WalkState.TheVariants.{Start as WalkStateStart, Retry as WalkStateRetry, FindNext as WalkStateFindNext, Ended}

@@ -39,7 +39,7 @@ internodes_enough (suc f) (suc g) n h k =
     by_test (leb n 1) (λ t. rw t) (λ e. rw e (ap (λ (m : ℕ). (n + 15) / 16 + m)
     (internodes_enough f g ((n + 15) / 16) (omega (arith, leb-false n 1 e)) (omega (arith, leb-false n 1 e)))))
 
-internodes-more : (n : ℕ) → 1 < n → internodes n n ≡ (n + 15) / 16 + internodes ((n + 15) / 16) ((n + 15) / 16)
+pub internodes-more : (n : ℕ) → 1 < n → internodes n n ≡ (n + 15) / 16 + internodes ((n + 15) / 16) ((n + 15) / 16)
 unfolding internodes pick
 internodes-more zero h = absurd (omega arith)
 internodes-more (suc n) h =

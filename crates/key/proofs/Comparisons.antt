@@ -90,7 +90,7 @@ by_length a b m e = go (cmp (length a) (length b))
     go (is_gt h) = rw (drop-cons a m 0 (omega arith), drop_of_length-le b {i = m} (omega arith))
 
 -- What is left of a string, as a part of it.
-part-rest : (s : List ℕ) (at : ℕ) → part s at (length s - at) ≡ drop at s
+pub part-rest : (s : List ℕ) (at : ℕ) → part s at (length s - at) ≡ drop at s
 unfolding part
 part-rest s at = take_all (length s - at) (drop at s) (omega (arith, length-drop at s))
 
@@ -186,7 +186,7 @@ module _ (a b : List ℕ) where
   rests_none i ra rb inv f g (inr q) = omega (arith, g q, ap length inv.second, length-drop i b)
 
 -- single bytes are compared no oftener than there are any
-bytes_most : (a b : List ℕ) → (by_bytes a b).comparisons ≤ length a
+pub bytes_most : (a b : List ℕ) → (by_bytes a b).comparisons ≤ length a
 unfolding compared_by
 bytes_most a b =
     let n : ℕ = min (length a) (length b) in

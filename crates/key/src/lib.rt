@@ -98,9 +98,13 @@ pub fn compare(a: &[u8], b: &[u8]) -> Ordering
 }
 
 // The ikey of a key: its first eight bytes, first byte highest, zero-filled.
+#[tactic(auto, unfolding(crate::specs::Ikey::ikey_of))]
 pub fn ikey_of(key: &[u8]) -> u64
     ensures { result ≡ ikey_of key.now }
 {
+    if 8 <= key.len() {
+        return eight_at(key, 0);
+    }
     let mut bytes = [0u8; 8];
     copy_in(&mut bytes, 0, first(key, 8));
     u64::from_be_bytes(bytes)
@@ -143,14 +147,25 @@ pub fn copy_words_in(buf: &mut [u8], at: usize, s: &[u8])
     requires { at + length s.now ≤ length buf.old }
     ensures { buf.new ≡ paste buf.old at s.now (length s.now) }
 {
-    let d = &mut buf[at..at + s.len()];
     if 8 <= s.len() && s.len() <= 32 {
+        let d = &mut buf[at..at + s.len()];
         copy_word(d, s, 0);
         copy_word(d, s, 8);
         copy_word(d, s, 16);
         copy_word(d, s, 24);
     } else {
-        d.copy_from_slice(s);
+        copy_bytes_in(buf, at, s);
+    }
+}
+
+// The same as `copy_in`, byte by byte. (By index: the library's copy was made a call of C's memmove here, which the archive for C asked for
+// from nowhere before.)
+fn copy_bytes_in(buf: &mut [u8], at: usize, s: &[u8])
+    requires { at + length s.now ≤ length buf.old }
+    ensures { buf.new ≡ paste buf.old at s.now (length s.now) }
+{
+    for i in 0..s.len() {
+        buf[at + i] = s[i];
     }
 }
 

@@ -84,7 +84,7 @@ module _ (f : FirstGroup) where
   longs-count : length (longs_of pairs) ≡ g.longs
   longs-count = ap length (sym r.longs) ∙ lines-length s (31 - m) g.long_line g.longs r.long-lines
 
-  slots-count : size_s (first_slots f.lines) ≡ g.shorts + min 1 g.longs
+  pub slots-count : size_s (first_slots f.lines) ≡ g.shorts + min 1 g.longs
   slots-count = group_size (layer_of m) pairs ∙ ap₂ (λ (a b : ℕ). a + min 1 b) shorts-count longs-count
 
   -- beside those that a leaf has
@@ -191,7 +191,7 @@ module _ (f : FirstGroup) where
         several : 2 ≤ g.longs
         several = omega (arith, not-none, not-one)
 
-        layers-left : 0 < m
+        pub layers-left : 0 < m
         layers-left = (longs.sub several).0
 
         abbrev long_pairs : List Pair

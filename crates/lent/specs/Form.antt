@@ -2,7 +2,7 @@
 use Rattle.base.specs.Kit.{List, ℕ}
 use Rattle.scan.specs.Machine.{step}
 use Rattle.walk.specs.declared.scan_state.Walk.{Walk}
-use Rattle.walk.specs.declared.scan_state.Stepped.{Stepped}
+use Rattle.walk.specs.Types.{Stepped}
 use Rattle.lent.specs.declared.StepAnswer.{StepAnswer}
 
 -- "same answer": a step's answer, its moves and what its walk has handed out, without the walk.

@@ -3,7 +3,7 @@ pub use Rattle.base.specs.declared.Decline.{Decline}
 pub use Rattle.cursor.specs.declared.range_bound.StartMode.TheVariants.{From}
 pub use Rattle.verify.specs.declared.Counts.{Counts}
 pub use Rattle.walk.specs.declared.scan_state.KeyOut.{KeyOut}
-pub use Rattle.walk.specs.declared.scan_state.Stepped.{Stepped}
+pub use Rattle.walk.specs.Types.{Stepped}
 pub use Rattle.walk.specs.declared.scan_state.Walk.{Walk}
 pub use Rattle.listed.specs.declared.Line.{Line}
 pub use Rattle.listed.specs.declared.Listing.{Listing}

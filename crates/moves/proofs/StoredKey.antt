@@ -29,7 +29,7 @@ stored-suffix buf offset suffix l h = rw (length-paste buf (offset + 8) suffix (
 
 module _ (image : List ℕ) (leaf : ℕ) (s : Slot) where
   -- one that does not end in this layer has a suffix that can be read and fits
-  storable-suffix : (offset : ℕ) → is_storable image leaf s offset ≡ true → 8 < keylenx_at image leaf s
+  pub storable-suffix : (offset : ℕ) → is_storable image leaf s offset ≡ true → 8 < keylenx_at image leaf s
       → (keylenx_at image leaf s ≡ 64) × (suffix_readable image leaf s ≡ true) × (offset + 8 + (suffix_at image leaf s).len ≤ 256)
   unfolding is_storable
   storable-suffix offset h g =

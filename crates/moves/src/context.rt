@@ -64,7 +64,7 @@ pub fn in_layer(c: ScanCtx, root: u64, leaf: u64, depth: usize) -> ScanCtx
 
 // The walk stands where a search came to, to find what is there: each argument is a field that this sets.
 #[tactic(auto, unfolding(crate::specs::Moves::standing))]
-pub(crate) fn stand(
+pub fn stand(
     c: ScanCtx,
     leaf: u64,
     cursor: CursorPlace,

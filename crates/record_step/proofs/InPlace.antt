@@ -96,7 +96,7 @@ module _ (n b k image : List ℕ) (is : is_record n b k ≡ true) (ok : numbers_
 
       pub key-past : None ≡ next_of image (get_or n kind_at 0) bytes buf (get_or n leaf_at 0) slot c
           → (handed : HandedOut) → handed ≡ read_handed n
-          → out' ≡ answer_numbers (Ok None) 1 handed → StepMade n b k image out 0 (key_numbers n c Ended handed) buf out'
+          → out' ≡ answer_numbers {E = Decline} (Ok None) 1 handed → StepMade n b k image out 0 (key_numbers n c Ended handed) buf out'
       unfolding read_walk read_handed
       key-past f handed eh eo =
           taken n b k image out said_fits is w refl _ (step.past w image walk-next there slot e bytes eb c ec buf ek f ∙ step_advances w image walk_ok_lem (ap is_ended walk-next)) _ refl _ _ _

@@ -29,10 +29,9 @@ fn step_of(walk: Walk, image: &[u8], tested: bool) -> Stepped
     ensures { result ≡ step walk image.now }
 {
     if tested {
-        forward_ctx::advance_no_alloc(&walk, image, true)
-    } else {
-        scan::step::step(walk, image)
+        return forward_ctx::advance_no_alloc(&walk, image, true);
     }
+    scan::step::step(walk, image)
 }
 
 // The step by way of the record's walk.
@@ -53,7 +52,7 @@ fn step_walk(
     let s = step_of(record::read_walk(numbers, buf, bound), image, tested);
     let key = s.answer?;
     record::put_moved(s.walk, numbers, buf);
-    out.copy_from_slice(&answer::answer_numbers(Ok(key), s.moves, s.handed));
+    out.copy_from_slice(&answer::answer_numbers::<Decline>(Ok(key), s.moves, s.handed));
     Ok(())
 }
 
@@ -91,12 +90,12 @@ fn step_next(
             let handed = in_place::one_more_of(numbers);
             in_place::put_key(numbers, stored, forward_ctx::after_key(last), handed);
             let key = Ok(Some(KeyOut { len, value }));
-            out.copy_from_slice(&answer::answer_numbers(key, 1, handed));
+            out.copy_from_slice(&answer::answer_numbers::<Decline>(key, 1, handed));
         }
         None => {
             let handed = record::read_handed(numbers);
             in_place::put_key(numbers, stored, WalkState::Ended, handed);
-            out.copy_from_slice(&answer::answer_numbers(Ok(None), 1, handed));
+            out.copy_from_slice(&answer::answer_numbers::<Decline>(Ok(None), 1, handed));
         }
     }
     Ok(())

@@ -1,34 +1,49 @@
--- Bytes in hex: what `{:02x}` writes of a byte, and what one byte more adds.
-use Rattle.std.specs.Prelude.{◌≡◌, ◌∷◌, ◌++◌, ◌+◌, ◌/◌, ◌%◌, ◌<◌, ◌^◌, ◌-◌, Some}
-use Rattle.std.specs.Fmt.{digits_output, radix_digits, styled_digits_output, format_spec, digit_glyph}
-use Rattle.std.proofs.lemmas.Fmt.{hex_byte}
-use Rattle.std.proofs.Common.{take, cond, ap, ◌∙◌}
-use Rattle.base.specs.Kit.{refl, List, [], ℕ, Bool, true, false, zero, suc, arith, length, get_or, ltb, add-one}
+-- Bytes in hex, a piece at a time: the front of a space has a piece's digits, which are text, and they stand before those of what follows.
+use Rattle.std.specs.Prelude.{◌≡◌, ◌∷◌, ◌++◌, ◌+◌, ◌*◌, ◌/◌, ◌%◌, ◌<◌}
+use Rattle.std.specs.Str.{IsAscii, IsUtf8}
+use Rattle.std.proofs.lemmas.Str.{IsUtf8-from_ascii}
+use Rattle.std.proofs.lemmas.Str.Ascii.{IsAscii-nil, IsAscii-cons}
+use Rattle.base.specs.Kit.{refl, sym, ap, Bool, true, false, List, [], ℕ, suc, arith, ltb, length, get_or, take, take-length, paste, take-paste, le_refl}
 use Rattle.base.specs.Pick.{pick}
 use Rattle.sheet.specs.Sheet.{hex_digit, hex_bytes}
+use Rattle.sheet.proofs.Hex.{hex_bytes_length}
 
--- a byte's two digits
-abbrev pub two_digits : ℕ → List ℕ
-two_digits b = hex_digit (b / 16) ∷ hex_digit (b % 16) ∷ []
-
-cond_is_pick : (t : Bool) (x y : ℕ) → cond t x y ≡ pick t x y
+pick_below : (t : Bool) (x y n : ℕ) → x < n → y < n → pick t x y < n
 unfolding pick
-cond_is_pick true x y = refl
-cond_is_pick false x y = refl
+pick_below true x y n h g = h
+pick_below false x y n h g = g
 
-same_digit : (x : ℕ) → digit_glyph false x ≡ hex_digit x
+digit_ascii : (x : ℕ) → x < 16 → hex_digit x < 128
 unfolding hex_digit
-same_digit x = cond_is_pick (ltb x 10) (48 + x) (87 + x)
+digit_ascii x h = pick_below (ltb x 10) (48 + x) (87 + x) 128 (omega arith) (omega arith)
 
-pub padded_byte : (d : _) (s : _) (b : ℕ) → b < 256 → digits_output d ≡ Some (radix_digits 16 false b)
-    → s ≡ format_spec 32 0 4 2 (2 ^ 64 - 1) → styled_digits_output d s ≡ Some (two_digits b)
-padded_byte d s b small digits spec =
-    rw (spec, digits) (ap Some (hex_byte false b small ∙ (λ i. same_digit (b / 16) i ∷ same_digit (b % 16) i ∷ [])))
-
--- the digits of a byte more
-pub hex_one_more : (s : List ℕ) (i : ℕ) → i < length s → hex_bytes (take i s) ++ two_digits (get_or s i 0) ≡ hex_bytes (take (i + 1) s)
+hex_ascii : (s : List ℕ) → ((i : ℕ) → get_or s i 0 < 256) → IsAscii (hex_bytes s)
 unfolding hex_bytes
-hex_one_more [] i h = absurd (omega arith)
-hex_one_more (b ∷ s) zero h = refl
-hex_one_more (b ∷ s) (suc i) h = rw (add-one (suc i))
-    (ap (λ l. hex_digit (b / 16) ∷ hex_digit (b % 16) ∷ l) (hex_one_more s i (omega arith) ∙ ap (λ n. hex_bytes (take n s)) (add-one i)))
+hex_ascii [] h = IsAscii-nil
+hex_ascii (b ∷ s) h =
+    let small : b < 256 = h 0 in
+    let low = IsAscii-cons (hex_digit (b % 16)) (hex_bytes s) (digit_ascii (b % 16) (omega arith)) (hex_ascii s (λ i. h (suc i))) in
+    IsAscii-cons (hex_digit (b / 16)) (hex_digit (b % 16) ∷ hex_bytes s) (digit_ascii (b / 16) (omega arith)) low
+
+-- the front of a space e, which was d, with the digits of s
+module _ (s d e : List ℕ) (n : ℕ) (put : e ≡ paste d 0 (hex_bytes s) (length (hex_bytes s))) (two : n ≡ 2 * length s) where
+  pub front_is : take n e ≡ hex_bytes s
+  front_is =
+      let all : n ≡ 0 + length (hex_bytes s) = omega (arith, hex_bytes_length s) in
+      rw (put, all, take-paste d 0 (hex_bytes s) (length (hex_bytes s)) (omega arith) (le_refl (length (hex_bytes s)))) (take-length (hex_bytes s))
+
+  pub front_text : ((i : ℕ) → get_or s i 0 < 256) → IsUtf8 (take n e)
+  front_text h = rw front_is (IsUtf8-from_ascii (hex_bytes s) (hex_ascii s h))
+
+pub hex_bytes_nil : hex_bytes [] ≡ []
+unfolding hex_bytes
+hex_bytes_nil = refl
+
+hex_append : (s t : List ℕ) → hex_bytes (s ++ t) ≡ hex_bytes s ++ hex_bytes t
+unfolding hex_bytes
+hex_append [] t = refl
+hex_append (b ∷ s) t = ap (λ (l : List ℕ). hex_digit (b / 16) ∷ hex_digit (b % 16) ∷ l) (hex_append s t)
+
+-- a piece's digits, and those of the rest
+pub hex_piece : (all piece rest digits : List ℕ) → all ≡ piece ++ rest → digits ≡ hex_bytes piece → digits ++ hex_bytes rest ≡ hex_bytes all
+hex_piece all piece rest digits parts shown = rw (shown, parts) (sym (hex_append piece rest))

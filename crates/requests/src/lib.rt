@@ -10,12 +10,13 @@
 // of what is read and of the calls, the input itself being free.
 #![tactic(auto)]
 
-ghost use Rattle.std.specs.Prelude.{◌≡◌, ◌≤◌, IfSome, Some, length};
+ghost use Rattle.std.specs.Prelude.{◌≡◌, ◌≤◌, ◌*◌, IfSome, Some, length};
 ghost use Rattle.sheet.specs.Sheet.{hex_bytes, hex_key};
 ghost use Rattle.requests.specs.Requests.{NamesMode, Fits, Asked, Answered};
 
-use std::fmt;
+use sheet::put_hex;
 use std::io::Read;
+use std::{fmt, str};
 
 // The most bytes of a name and of a key.
 const NAME: usize = 256;
@@ -26,7 +27,7 @@ const KEY: usize = 512;
 pub const SPACE: usize = NAME + KEY + KEY + 65536;
 
 /// A request; `F` is the program's own, of its form.
-#[derive(Drop)]
+#[derive(Clone, Copy, Drop)]
 pub struct Request<'a, F> {
     pub name: &'a [u8],
     pub form: F,
@@ -129,6 +130,18 @@ pub fn line(rt: &impl Print, name: &[u8], rest: impl fmt::Display + Drop) {
     let _ = rt.println(rest);
 }
 
+// How many bytes are shown at a time: a write for each byte's digits costs far more.
+const PIECE: usize = 32;
+
+// The digits of a piece, written at the front of the space that is lent: always text, so that the empty one is never given.
+fn digits<'a>(space: &'a mut [u8], piece: &[u8]) -> &'a str
+    requires { 2 * length piece.now ≤ length space.old }
+    ensures { result.now ≡ hex_bytes piece.now }
+{
+    put_hex(space, piece);
+    str::from_utf8(&space[..2 * piece.len()]).unwrap_or("")
+}
+
 /// Bytes in hex, two digits each, as a sheet has them.
 #[derive(Drop)]
 pub struct Hex<'a>(pub &'a [u8]);
@@ -137,8 +150,10 @@ impl fmt::Display for Hex<'_> {
     ghost output = { λ h. Some (hex_bytes h.0.now) };
 
     fn fmt<W: fmt::Write>(&self, f: &mut fmt::Formatter<W>) -> fmt::Result {
-        for &byte in self.0 {
-            write!(f, "{byte:02x}")?;
+        let mut space = [0u8; 2 * PIECE];
+        for piece in self.0.chunks(PIECE) {
+            let text = digits(&mut space, piece);
+            f.write_str(text)?;
         }
         Ok(())
     }

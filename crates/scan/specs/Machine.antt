@@ -1,9 +1,9 @@
 -- The machine: a step of a walk, over any bytes and any walk record (01, "Step a walk" and "That
 -- loop, its Start and the numbers above are the machine").
-use Rattle.std.specs.Prelude.{◌&&◌, ◌+◌, ◌-◌, Some, None, Result, Ok, Err}
+use Rattle.std.specs.Prelude.{◌&&◌, ◌+◌, ◌-◌, Option, Some, None, Result, Ok, Err}
 use Rattle.base.specs.Kit.{Bool, true, false, not, List, ℕ, zero, suc, eqb, length, take, get_or, set}
 use Rattle.base.specs.Pick.{pick}
-use Rattle.scan.specs.Types.{Held, StartMode, LayerContext, WalkState, WalkStateStart as Start, WalkStateRetry as Retry, WalkStateFindNext as FindNext, Ended, HandedOut, Walk, ScanState, ScanCtx, Outcome, Continue, Push, Emit, Exhausted, Pass, Answer, Decline, WalkRange, MovesSpent, Stepped}
+use Rattle.scan.specs.Types.{Held, StartMode, LayerContext, WalkState, WalkStateStart as Start, WalkStateRetry as Retry, WalkStateFindNext as FindNext, Ended, HandedOut, Walk, ScanState, ScanCtx, Outcome, Continue, Push, Emit, Exhausted, Pass, Answer, Decline, WalkRange, MovesSpent, KeyOut, StepOf, Stepped}
 use Rattle.walk.specs.Walk.{nothing_yet, one_more, empty_context, walk_ok}
 use Rattle.moves.specs.Moves.{Taken, in_layer, pass_in}
 use Rattle.moves.specs.declared.context.ScanState.TheVariants as loop
@@ -150,16 +150,16 @@ after_key true = Ended
 after_key false = FindNext
 
 -- "A declined call returns its number, zero elsewhere, and any walk as it came."
-abbrev pub declined_with : Decline → Walk → Stepped
+abbrev pub declined_with : {E : Type 0} → E → Walk → StepOf E
 declined_with d w = record { answer = Err d; moves = 0; handed = nothing_yet; walk = w }
 
 -- An answer with its moves, the walk after them, and what that has handed out.
-abbrev pub answered : Answer → ℕ → Walk → Stepped
+abbrev pub answered : {E : Type 0} → Result (Option KeyOut) E → ℕ → Walk → StepOf E
 answered answer moves w = record { answer = answer; moves = moves; handed = w.handed; walk = w }
 
 -- 02 [13]: "The step's answer and the walk itself carry the depth at which the last key was found and how many have been handed out so far",
 -- "and a none gives both as they stand".
-abbrev pub stepped : Walk → Answer → Bool → ℕ → Held → Stepped
+abbrev pub stepped : {E : Type 0} → Walk → Result (Option KeyOut) E → Bool → ℕ → Held → StepOf E
 stepped w (Ok (Some k)) last moves s = answered (Ok (Some k)) moves (walk_of w (after_key last) (one_more w.handed s.ctx.depth) s)
 stepped w (Ok None) last moves s = answered (Ok None) moves (walk_of w Ended w.handed s)
 stepped w (Err d) last moves s = declined_with d w

@@ -23,8 +23,8 @@ pub use Rattle.walk.specs.declared.scan_state.HandedOut.{HandedOut}
 pub use Rattle.walk.specs.declared.scan_state.KeyOut.{KeyOut}
 pub use Rattle.walk.specs.declared.scan_state.LayerContext.{LayerContext}
 pub use Rattle.walk.specs.declared.scan_state.Placed.{Placed}
-pub use Rattle.walk.specs.declared.scan_state.Stepped.{Stepped}
+pub use Rattle.walk.specs.declared.scan_state.StepOf.{StepOf}
 pub use Rattle.walk.specs.declared.scan_state.Walk.{Walk}
 pub use Rattle.walk.specs.declared.scan_state.WalkState.{WalkState}
-pub use Rattle.walk.specs.Types.{Answer}
+pub use Rattle.walk.specs.Types.{Answer, Stepped}
 pub use Rattle.walk.specs.declared.scan_state.WalkState.TheVariants.{Start as WalkStateStart, FindNext as WalkStateFindNext, Retry as WalkStateRetry, Ended}

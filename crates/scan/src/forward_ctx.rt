@@ -9,13 +9,14 @@ ghost use Rattle.scan.specs.Types.{ScanStateFindNext as FindNext};
 ghost use Rattle.scan.specs.Machine.{scan_of, move, after_key, key_out, declined_with, stepped, advance};
 ghost use Rattle.scan.specs.CodeLoop.{Begun, MadeAs, ending_with, run_with, no_leaf, advance_by, advanced_of, keys_ahead};
 
-use crate::scan_ctx::Held;
+// (Given on for callers of `stepped`.)
+pub use crate::scan_ctx::Held;
 use crate::{along_leaf, scan_ctx};
 use base::Decline;
 use cursor::range_bound::End;
 use moves::context::{Outcome, Pass, ScanCtx, ScanState};
 use walk::handed_out;
-use walk::scan_state::{Answer, KeyOut, Stepped, Walk, WalkState};
+use walk::scan_state::{Answer, KeyOut, StepOf, Stepped, Walk, WalkState};
 
 // What the loop comes to: how many keys were out, and the step that its moves make.
 #[derive(Clone, Copy)]
@@ -57,11 +58,11 @@ pub fn after_key(last: bool) -> WalkState
     }
 }
 
-// A declined step: its decline, zero elsewhere, and the walk as it came.
-pub(crate) fn declined(decline: Decline, walk: &Walk) -> Stepped
+// A declined step: its decline, which may be of any type, zero elsewhere, and the walk as it came.
+pub fn declined<E: Copy>(decline: E, walk: &Walk) -> StepOf<E>
     ensures { result ≡ declined_with decline walk.now }
 {
-    Stepped {
+    StepOf {
         answer: Err(decline),
         moves: 0,
         handed: handed_out::nothing_yet(),
@@ -71,21 +72,27 @@ pub(crate) fn declined(decline: Decline, walk: &Walk) -> Stepped
 
 // A step by its answer, whether that is the last key, its moves, and what the loop holds after them. (The count is asked for here alone: it
 // may be any number in a record, and the test of a walk's numbers has it below the image's length, so that one more fits.)
-pub fn stepped(walk: &Walk, answer: Answer, last: bool, moves: usize, held: &Held) -> Stepped
+pub fn stepped<E: Copy>(
+    walk: &Walk,
+    answer: Result<Option<KeyOut>, E>,
+    last: bool,
+    moves: usize,
+    held: &Held,
+) -> StepOf<E>
     requires { walk.now.handed.count < 2 ^ 63 }
     ensures { result ≡ stepped walk.now answer last moves held.now }
 {
     match answer {
         Ok(Some(_)) => {
             let handed = handed_out::one_more(walk.handed, held.ctx.depth);
-            Stepped {
+            StepOf {
                 answer,
                 moves,
                 handed,
                 walk: scan_ctx::walk_of(walk, after_key(last), handed, held),
             }
         }
-        Ok(None) => Stepped {
+        Ok(None) => StepOf {
             answer,
             moves,
             handed: walk.handed,

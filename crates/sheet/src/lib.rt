@@ -2,7 +2,7 @@
 //
 // Interface: `first_line`, `pair_line`, `last_line` and `refused_line`. None has a `requires`: where the buffer is too short for
 // the line nothing is written, and the length is 0, which no line has: a line is kept as its bytes and this length, and an Option would only be
-// opened for it. What stands past the written length stays as it was.
+// opened for it. What stands past the written length stays as it was. And `put_hex`, bytes in hex alone, which asks that the buffer has room.
 #![tactic(auto)]
 
 ghost use Rattle.std.specs.Prelude.{◌∷◌, ◌++◌, ◌≡◌, ◌+◌, ◌*◌, ◌≤◌, ◌<◌};
@@ -129,11 +129,11 @@ fn put_hex_key(out: &mut [u8], key: &[u8])
     }
 }
 
-// Two hex digits for each byte of a key, at the front of out.
+// Two hex digits for each byte of a key, or of any other bytes, at the front of out.
 // (By index. Tried: over `chunks_exact_mut`, zipped with the key; nothing is known of what was written behind such a loop, and the proof did
 // not close.)
 #[tactic(auto, using(crate::proofs::Hex::hex_more, crate::proofs::Hex::hex_none))]
-fn put_hex(out: &mut [u8], key: &[u8])
+pub fn put_hex(out: &mut [u8], key: &[u8])
     requires { 2 * length key.now ≤ length out.old }
     ensures { out.new ≡ paste out.old 0 (hex_bytes key.now) (length (hex_bytes key.now)) }
 {

@@ -15,6 +15,9 @@ pub fn tally(image: &[u8], cursor: &[u8], kind: u8, bound: &[u8]) -> Result<usiz
     ensures { result ≡ tally image.now cursor.now kind bound.now }
 {
     verify::check_image(image)?;
-    let walk = walk::placing::place(image, StartMode::Above, cursor, kind, bound).accepted()?;
-    Ok(scan::step::count_keys(walk, image))
+    let placed = walk::placing::place(image, StartMode::Above, cursor, kind, bound);
+    match placed.declined {
+        Some(decline) => Err(decline),
+        None => Ok(scan::step::count_keys(placed.walk, image)),
+    }
 }

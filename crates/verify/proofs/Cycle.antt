@@ -68,7 +68,7 @@ separator_positive image path at lo hi i told h = (
 )
 
 -- THE WHOLE. Nothing is counted at its begin.
-begin_bounded : (p : Progress) → p ≡ begin → Bounded 0 p
+pub begin_bounded : (p : Progress) → p ≡ begin → Bounded 0 p
 begin_bounded p f = rw f (record { within = omega arith; counted = omega arith; lively = omega arith })
 
 -- by the code's answer for the heading

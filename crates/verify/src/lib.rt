@@ -126,7 +126,10 @@ fn check_subtree(
             // Children are counted: they are words of the image behind a reader, and no slice.
             for i in 0..children.count() {
                 let child = node.child(i);
-                p = check_subtree(image, below, path - 1, child, children.ends(i), p)?;
+                p = match check_subtree(image, below, path - 1, child, children.ends(i), p) {
+                    Ok(q) => q,
+                    Err(decline) => return Err(decline),
+                };
             }
             p.end_record(place, INTERNODE_SIZE)
         }

@@ -1,8 +1,9 @@
--- The test of a walk's numbers: what a walk that passes has.
-use Rattle.std.specs.Prelude.{◌≡◌, ◌+◌, ◌*◌, ◌≤◌}
+-- The test of a walk's numbers: what a walk that passes has. And an answer's number, where its declines have 01's.
+use Rattle.std.specs.Prelude.{◌≡◌, ◌+◌, ◌*◌, ◌≤◌, Ok, Err}
 use Rattle.base.specs.Kit.{true, and-eq-true_iff, ℕ, leb-true, eqb-true, eq-eqb, le-leb}
-use Rattle.walk.specs.Types.{Walk}
-use Rattle.walk.specs.Walk.{in_range, walk_ok}
+use Rattle.base.specs.Decline.{HasNumber}
+use Rattle.walk.specs.Types.{Walk, Answer}
+use Rattle.walk.specs.Walk.{number_of, HasNumberBy, in_range, walk_ok}
 
 -- 01's number 21 is not met
 pub record Fits (w : Walk) (n : ℕ) : Type 0 where
@@ -53,3 +54,12 @@ fits-walk w n o =
       le-leb w.handed.depth 31 o.last_fits,
       le-leb w.handed.count n o.count_fits,
     )
+
+-- AN ANSWER'S NUMBER, at each type of decline: of a `Decline` 01's, and where the decline is a number that number.
+pub said_number : (answer : Answer) (n : ℕ) → HasNumberBy HasNumber answer n → n ≡ number_of answer
+unfolding number_of
+said_number (Ok a) n e = e
+said_number (Err d) n e = e
+
+pub same_number : (d n : ℕ) → HasNumberBy {E = ℕ} (λ x y. y ≡ x) (Err d) n → n ≡ d
+same_number d n e = e

@@ -9,6 +9,7 @@ pub use Rattle.walk.specs.declared.scan_state.HandedOut.{HandedOut}
 pub use Rattle.walk.specs.declared.scan_state.KeyOut.{KeyOut}
 pub use Rattle.walk.specs.declared.scan_state.LayerContext.{LayerContext}
 pub use Rattle.walk.specs.declared.scan_state.Placed.{Placed}
+pub use Rattle.walk.specs.declared.scan_state.StepOf.{StepOf}
 pub use Rattle.walk.specs.declared.scan_state.Walk.{Walk}
 pub use Rattle.walk.specs.declared.scan_state.WalkState.{WalkState}
 pub use Rattle.walk.specs.declared.scan_state.WalkState.TheVariants.{Start, FindNext, Retry, Ended}
@@ -17,3 +18,7 @@ pub use Rattle.walk.specs.declared.walk_ok.WalkNumbers.{WalkNumbers}
 -- a step's answer, as the code's alias has it
 abbrev pub Answer : Type 0
 Answer = Result (Option KeyOut) Decline
+
+-- and a step
+abbrev pub Stepped : Type 0
+Stepped = StepOf Decline

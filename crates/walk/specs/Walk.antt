@@ -1,28 +1,33 @@
 -- A walk between calls, over any record: what a step's answer says, the walk that has made no move, and the range of a walk's numbers
 -- (01, "Place a walk", "Step a walk").
-use Rattle.std.specs.Prelude.{◌&&◌, ◌∷◌, ◌+◌, ◌*◌, Some, None, Ok, Err}
+use Rattle.std.specs.Prelude.{◌≡◌, ◌&&◌, ◌∷◌, ◌+◌, ◌*◌, Option, Some, None, Result, Ok, Err}
 use Rattle.base.specs.Decline.{decline_number}
 use Rattle.base.specs.Kit.{Bool, List, [], ℕ, leb, eqb, replicate}
-use Rattle.walk.specs.Types.{CursorKey, RangeBound, StartMode, Above, LayerContext, WalkState, Ended, HandedOut, Walk, WalkNumbers, Answer}
+use Rattle.walk.specs.Types.{CursorKey, RangeBound, StartMode, Above, LayerContext, WalkState, Ended, HandedOut, KeyOut, Walk, WalkNumbers, Answer}
 
 -- WHAT AN ANSWER SAYS: 01's number of it, 0 where the step was not declined; how many keys are out, one or none; the key's length and its
 -- value: "None has key length 0 and value 0", and a declined call "returns its number, zero elsewhere". Every promise about an answer is
--- made by these four.
+-- made by these four. The last three ask nothing of why it was declined, which may be of any type.
 unfoldable pub number_of : Answer → ℕ
 number_of (Ok a) = 0
 number_of (Err d) = decline_number d
 
-unfoldable pub keys_of : Answer → ℕ
+-- n is an answer's number, where `numbers` says of each decline which number it has: 0 where the step was not declined.
+abbrev pub HasNumberBy : {E : Type 0} → (E → ℕ → Type 0) → Result (Option KeyOut) E → ℕ → Type 0
+HasNumberBy numbers (Ok a) n = n ≡ 0
+HasNumberBy numbers (Err d) n = numbers d n
+
+unfoldable pub keys_of : {E : Type 0} → Result (Option KeyOut) E → ℕ
 keys_of (Ok (Some k)) = 1
 keys_of (Ok None) = 0
 keys_of (Err d) = 0
 
-unfoldable pub len_of : Answer → ℕ
+unfoldable pub len_of : {E : Type 0} → Result (Option KeyOut) E → ℕ
 len_of (Ok (Some k)) = k.len
 len_of (Ok None) = 0
 len_of (Err d) = 0
 
-unfoldable pub value_of : Answer → ℕ
+unfoldable pub value_of : {E : Type 0} → Result (Option KeyOut) E → ℕ
 value_of (Ok (Some k)) = k.value
 value_of (Ok None) = 0
 value_of (Err d) = 0
@@ -37,7 +42,7 @@ abbrev pub one_more : HandedOut → ℕ → HandedOut
 one_more h depth = record { depth = depth; count = h.count + 1 }
 
 -- The last three of an answer, the moves, and these two, as they cross to C.
-unfoldable pub answer_numbers : Answer → ℕ → HandedOut → List ℕ
+unfoldable pub answer_numbers : {E : Type 0} → Result (Option KeyOut) E → ℕ → HandedOut → List ℕ
 answer_numbers a moves h = keys_of a ∷ len_of a ∷ value_of a ∷ moves ∷ h.depth ∷ h.count ∷ []
 
 -- A WALK THAT HAS MADE NO MOVE.

@@ -1,21 +1,27 @@
 // What a step's answer says, as numbers (01: "a definition gives this paper's number and values for each of its cases").
 ghost use Rattle.std.specs.Prelude.{◌≡◌};
-ghost use Rattle.walk.specs.Walk.{number_of, answer_numbers};
+ghost use Rattle.walk.specs.Walk.{HasNumberBy, answer_numbers};
 
-use crate::scan_state::{Answer, HandedOut, KeyOut};
-use base::number_if;
+use crate::scan_state::{HandedOut, KeyOut};
 
-// Its number, 0 where the step was not declined. (No code here calls it: it is for callers that keep a number.)
-#[tactic(auto, unfolding(crate::specs::Walk::number_of, base::specs::Decline::number_if))]
-pub fn answer_number(answer: Answer) -> u8
-    ensures { result ≡ number_of answer }
+// Its number, 0 where the step was not declined, and of a decline the one that it converts to: of a `Decline` 01's, and a number stays what it
+// is. (No code here calls it: it is for callers that keep a number.)
+pub fn answer_number<E: Into<u8>>(answer: Result<Option<KeyOut>, E>) -> u8
+    ensures { HasNumberBy E.converts answer result }
 {
-    number_if(answer.err())
+    match answer {
+        Ok(_) => 0,
+        Err(decline) => decline.into(),
+    }
 }
 
 // Its keys, key length and value, the moves, and the depth and the count of what the walk has handed out.
 #[tactic(auto, unfolding(crate::specs::Walk::answer_numbers, crate::specs::Walk::keys_of, crate::specs::Walk::len_of, crate::specs::Walk::value_of))]
-pub fn answer_numbers(answer: Answer, moves: usize, handed: HandedOut) -> [u64; 6]
+pub fn answer_numbers<E: Drop>(
+    answer: Result<Option<KeyOut>, E>,
+    moves: usize,
+    handed: HandedOut,
+) -> [u64; 6]
     ensures { result ≡ answer_numbers answer moves handed }
 {
     let n = moves as u64;

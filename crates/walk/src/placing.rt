@@ -128,15 +128,15 @@ impl Placed {
 pub fn place(image: &[u8], mode: StartMode, cursor: &[u8], kind: u8, bound: &[u8]) -> Placed
     ensures { result ≡ place image.now mode cursor.now kind bound.now }
 {
-    match check_placing(image, cursor, kind, bound) {
-        Ok(()) => Placed {
-            declined: None,
-            walk: fresh_walk(image, mode, cursor, kind, bound),
-        },
-        Err(decline) => Placed {
+    if let Err(decline) = check_placing(image, cursor, kind, bound) {
+        return Placed {
             declined: Some(decline),
             walk: zero_walk(),
-        },
+        };
+    }
+    Placed {
+        declined: None,
+        walk: fresh_walk(image, mode, cursor, kind, bound),
     }
 }
 

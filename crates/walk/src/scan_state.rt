@@ -64,11 +64,14 @@ pub struct KeyOut {
 pub type Answer = Result<Option<KeyOut>, Decline>;
 
 // A step: its answer, its moves, what the walk has handed out with it (zeros where the step is declined), and the walk after it. (No Result:
-// a declined step gives the walk back as it came.)
+// a declined step gives the walk back as it came.) Why it is declined may be of any type, as a caller that keeps a number has it.
 #[derive(Clone, Copy)]
-pub struct Stepped {
-    pub answer: Answer,
+pub struct StepOf<E> {
+    pub answer: Result<Option<KeyOut>, E>,
     pub moves: usize,
     pub handed: HandedOut,
     pub walk: Walk,
 }
+
+// A step as the walk makes it.
+pub type Stepped = StepOf<Decline>;

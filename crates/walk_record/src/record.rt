@@ -91,7 +91,9 @@ fn numbers_of(walk: Walk) -> [u64; layout::NUMBERS]
     n
 }
 
-// A walk's numbers and its cursor's buffer into a record, whose bound stays.
+// A walk's numbers and its cursor's buffer into a record, whose bound stays. (Inlined where it is called, of which there are two: the walk would
+// be copied for the call, a kilobyte a step.)
+#[inline(always)]
 pub fn put_moved(walk: Walk, numbers: &mut [u64; layout::NUMBERS], buf: &mut [u8; 256])
     ensures { (numbers.new ≡ numbers_of walk) × (buf.new ≡ walk.cursor.buf) }
 {

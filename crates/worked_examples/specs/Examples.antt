@@ -12,7 +12,7 @@ use Rattle.scan.specs.Machine.{step}
 use Rattle.cursor.specs.declared.range_bound.StartMode.{StartMode}
 use Rattle.cursor.specs.declared.range_bound.StartMode.TheVariants.{Above, From}
 use Rattle.walk.specs.declared.scan_state.Placed.{Placed}
-use Rattle.walk.specs.declared.scan_state.Stepped.{Stepped}
+use Rattle.walk.specs.Types.{Stepped}
 use Rattle.walk.specs.declared.scan_state.Walk.{Walk}
 use Rattle.worked_examples.specs.Sample.{entry, dead, layer_slot, leaf_bytes, image_of, one_leaf}
 

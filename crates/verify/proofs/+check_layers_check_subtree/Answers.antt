@@ -59,5 +59,5 @@ check_subtree-invariant_of-children t c = record {
 pub check_subtree-loop-i-preserved : goal.check_subtree-loop-i-preserved
 unfolding and_then
 check_subtree-loop-i-preserved t c =
-    let kept = child-kept _ _ _ _ _ _ _ _ _ c.args.image.sized c.in_ok-p-in-Internode.ensures c.loop-i.invariant.0 in
+    let kept = child-kept _ _ _ _ _ _ _ _ _ c.args.image.sized (rw c.in-Ok.is at c.check_subtree.ensures) c.loop-i.invariant.0 in
     (kept, grind (arith, each_next))

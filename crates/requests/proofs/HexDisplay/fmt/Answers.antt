@@ -1,17 +1,29 @@
--- Each turn writes a byte's two digits behind those of the bytes before it.
-use Rattle.std.proofs.Common.{rules, refl, Ok}
-use Rattle.std.proofs.Output.{has_written_append, has_written_of_eq, displays_on_ok_of_eq}
-use Rattle.sheet.specs.Sheet.{hex_bytes}
-use Rattle.requests.proofs.HexDigits.{padded_byte, hex_one_more}
+-- Each turn writes a piece's digits behind those of the pieces before it.
+use Rattle.std.proofs.Common.{List, ℕ, ◌++◌, ap, ◌∙◌, rules, append_assoc, append-nil}
+use Rattle.std.proofs.Output.{has_written_append, has_written_of_eq}
+use Rattle.std.proofs.lemmas.List.{nil_from_length}
+use Rattle.std.specs.Slice.Iter.{chunks_rest}
+use Rattle.requests.proofs.HexDigits.{hex_bytes_nil, hex_piece}
 use Rattle.requests.proofs.HexDisplay.fmt.Goals as goal
 
-pub loop-byte-init : goal.loop-byte-init
-unfolding hex_bytes
-loop-byte-init g c = search rules
+pub loop-piece-preserved : goal.loop-piece-preserved
+loop-piece-preserved g c =
+    let steps = c.in-Some.ensures.steps in (
+      search rules,
+      tt,
+      steps.0 ∙ c.loop-piece.invariant.2,
+      λ plain.
+          let so_far = c.loop-piece.invariant.3 plain in (
+            so_far.0 ++ c.digits-text.result.now,
+            has_written_append _ _ _ _ _ _ so_far.1 (search rules),
+            append_assoc so_far.0 _ _
+                ∙ ap (λ (t : List ℕ). so_far.0 ++ t) (hex_piece _ _ (chunks_rest c.next.new.self) _ steps.1.0 c.digits-text.ensures)
+                ∙ so_far.2,
+          ),
+    )
 
-pub loop-byte-preserved : goal.loop-byte-preserved
-loop-byte-preserved g c = λ plain.
-    let now = c.loop-byte.invariant plain in
-    let digits = padded_byte c.in_radix.result c.laid_out.result _ (search rules) c.in_radix.ensures c.laid_out.ensures in
-    let two = displays_on_ok_of_eq _ _ _ (Ok c.in_ok-write.field-0) _ _ digits c.in_ok-write.ensures.writes in
-    has_written_of_eq _ _ _ _ _ (hex_one_more _ _ (search rules)) (has_written_append _ _ _ _ _ _ now (two now.plain refl))
+pub returns-clause-writes : goal.returns-clause-writes
+returns-clause-writes g c = λ plain _.
+    let so_far = c.loop-piece.invariant.3 plain in
+    let none = nil_from_length _ c.in-None.ensures.steps.1.0 in
+    has_written_of_eq _ _ _ _ _ (rw (none, hex_bytes_nil, append-nil) at so_far.2) so_far.1
