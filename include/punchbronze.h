@@ -16,7 +16,7 @@
  * stays as it was where a step is declined, or a placing with 21; a placing declined with 1, 2, 11, 12 or 13 leaves the all-zero ended
  * walk in it. No function keeps a pointer, takes memory other than the stack's or fails otherwise.
  *
- * Stack: a step takes about 12 KB and a placing 6 KB; pb_check and pb_tally take about 216 KB on the deepest image that can be accepted,
+ * Stack: a step takes about 10 KB and a placing 5 KB; pb_check and pb_tally take about 155 KB on the deepest image that can be accepted,
  * pb_build took 219 KB on the deepest sheet that was tried.
  * Time is promised over images that the check accepts: there all steps of a walk together make at most leaves + value slots + 4 x
  * sub-layers + 2 moves. Over any other image a step makes at most as many moves as the image has bytes, but one move may go down a chain
