@@ -45,9 +45,9 @@ module _ (image cursor : List ℕ) (kind : ℕ) (bound : List ℕ) where
     unfolding tally and_then place check_number
     placed_counts b bc z n h =
         let taken = taken-by (placing image cursor kind bound) _ (rw g at z) in
-        let accepted : check_number (check image) ≡ 0 = rw (← e) refl in
+        let passes : check_number (check image) ≡ 0 = rw (← e) refl in
         let w : keys_left p.walk image ≡ length (row_of image Above cursor kind bound) =
-        rw g (row-counted image b accepted Above cursor bc kind bound (rw g at z)) in
+        rw g (row-counted image b passes Above cursor bc kind bound (rw g at z)) in
         rw (← e, taken, h, w) refl
 
   -- the same for who takes the placing's walk, or its decline in the place of one
